@@ -1,0 +1,4 @@
+pub mod Machine
+pub mod Class
+pub mod Format
+pub mod Ops

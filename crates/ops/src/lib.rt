@@ -1,0 +1,1 @@
+// The machine's own type and the one constant table of operations.
