@@ -1,0 +1,9 @@
+pub mod Facts
+pub mod Links
+pub mod Exits
+pub mod Control
+pub mod Acts
+pub mod Steps
+pub mod Runs
+pub mod Demand
+pub mod Starts
