@@ -32,6 +32,10 @@ wtb w = times w cfpB
 abbrev pub wtc : ℕ → ℕ
 wtc w = times w cfpC
 
+-- bytes to words, rounded down [M 8.2]
+abbrev pub btw : ℕ → ℕ
+btw w = w / cfpB
+
 -- the words that hold w characters; with v more, in words and in bytes [M 8.7] [M 8.8]
 abbrev pub wordsFor : ℕ → ℕ
 wordsFor w = (w + 3) / cfpC

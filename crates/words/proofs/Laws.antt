@@ -1,0 +1,2 @@
+-- The laws of words that other crates cite.
+-- Assumes nothing.

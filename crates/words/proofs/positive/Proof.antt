@@ -1,0 +1,18 @@
+use borrow.Author.Tests.{eq-eqb, ne-eqb}
+use Rattle.base.specs.Test.{if}
+use Rattle.words.specs.Words.{positive}
+use Rattle.words.proofs.positive.Statement.{statement}
+use Rattle.words.proofs.positive.Tie as tie
+use Rattle.words.proofs.positive.Reads as reads
+use Rattle.words.proofs.positive.Lts as lts
+
+returns : tie.Need-returns
+unfolding positive if
+returns c = rw (eq-eqb _ _ (c .if1 .taken))
+
+returns-2 : tie.Need-returns-2
+unfolding positive if
+returns-2 c = rw (ne-eqb _ _ (c .if1 .left))
+
+pub positive-spec : {M : Type 1} → statement M
+positive-spec = tie.close (tie.spec returns returns-2)
