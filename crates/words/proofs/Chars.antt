@@ -1,11 +1,14 @@
 -- Digits of a number to a base: one digit read, one digit replaced, the others kept.
 -- Assumes nothing.
-use Prim.Native.Nat.{ℕ, zero, suc, _+_, _*_, _-_, _/_, _%_, _^_, _≤_, _<_, zero-le, suc-le-suc}
+use Prim.Native.Nat.{ℕ, zero, suc, _+_, _*_, _-_, _/_, _%_, _^_, _≤_, _<_}
 use mathlib.Core.Path.{_≡_, refl, sym, ap, ap₂, _∙_, subst}
-use native.Mathlib.Nat.{one-le-pow, mod-eq-of-lt, le-trans, lt-of-lt-of-le, mod-le, div-mul-le-self, mul-le-mul-right, mul-lt-mul-of-pos-right, pow-le-pow-right, mul-suc, div-add-mod', add-mul, mul-assoc, mul-comm, mul-right-comm, pow-suc, pow-zero, div-div-eq-div-mul, div-lt-iff-lt-mul, mod-lt, mul-add-mod-self-right, mul-add-div-right, add-assoc}
+use native.Mathlib.Nat.{one-le-pow, mod-eq-of-lt, le-trans, lt-of-lt-of-le, mod-le, div-mul-le-self, mul-le-mul-right, mul-lt-mul-of-pos-right, pow-le-pow-right, mul-suc, div-add-mod', add-mul, mul-assoc, mul-comm, pow-suc, div-div-eq-div-mul, div-lt-iff-lt-mul, mod-lt, mul-add-mod-self-right, mul-add-div-right, add-assoc}
 use native.Mathlib.Omega.{arith}
 use lib.Pow.{pow-add}
-use lib.Arith.{digits-lt, digits-div, digits-mod}
+use lib.Dec.{ltb}
+use mathlib.Core.Bool.{Bool, true, false}
+use borrow.Author.Tests.{ltb-true, ltb-false}
+use lib.Arith.{lt-of-le-ne, digits-lt, digits-div, digits-mod}
 use Rattle.words.specs.Words.{byteOf, withByte}
 use Rattle.words.proofs.Wraps.{pow-split}
 
@@ -84,6 +87,13 @@ module _ (a : ℕ) (base : 0 < a) where
           ap (λ (z : ℕ). x / z) (pow-split a e ∙ mul-comm (a ^ (j - suc k)) (a ^ suc k))
           ∙ sym (div-div-eq-div-mul x (a ^ suc k) (a ^ (j - suc k)))
 
+  pub digit-put-other : (w k : ℕ) {b j : ℕ} → b < a → (j ≡ k → ⊥) → digit (put w k b) j ≡ digit w j
+  digit-put-other w k {b} {j} h n = cases (ltb j k) refl
+    where
+      cases : (t : Bool) → (t ≡ ltb j k) → digit (put w k b) j ≡ digit w j
+      cases true e = put-below w k b (ltb-true j k (sym e))
+      cases false e = put-above w k h (lt-of-le-ne (ltb-false j k (sym e)) (λ q. n (sym q)))
+
   -- w of n digits has n digits after it
   pub put-lt : (w k : ℕ) {b n : ℕ} → b < a → k < n → w < a ^ n → put w k b < a ^ n
   put-lt w k {b} {n} h e l =
@@ -120,14 +130,10 @@ char-bits (suc k) =
 
 -- a character shifted to its place in a word loses nothing
 pub char-shl : (b k : ℕ) → b < 256 → k < 4 → b * 2 ^ (8 * k) % 2 ^ 32 ≡ b * 256 ^ k
-char-shl b k h e = ap (λ (z : ℕ). b * z % 2 ^ 32) (char-bits k) ∙ mod-eq-of-lt (digit-lt 256 (suc-le-suc zero-le) k h e)
-
--- a character of a word in its place, by shifts
-pub byte-shl : (w k : ℕ) → k < 4 → w / 2 ^ (8 * k) % 256 * 2 ^ (8 * k) % 2 ^ 32 ≡ byteOf w k * 256 ^ k
-byte-shl w k e =
-    ap (λ (z : ℕ). w / z % 256 * 2 ^ (8 * k) % 2 ^ 32) (char-bits k) ∙ char-shl (byteOf w k) k (omega arith) e
+char-shl b k h e = ap (λ (z : ℕ). b * z % 2 ^ 32) (char-bits k) ∙ mod-eq-of-lt (digit-lt 256 (omega arith) k h e)
 
 -- the character at k exchanged for b, by shifts
-pub with-byte-is : (w k b : ℕ) → k < 4 → b < 256 → w - w / 2 ^ (8 * k) % 256 * 2 ^ (8 * k) % 2 ^ 32 + b * 2 ^ (8 * k) % 2 ^ 32 ≡ withByte w k b
+pub with-byte-is : (w k b : ℕ) → k < 4 → b < 256 → w - byteOf w k * 2 ^ (8 * k) % 2 ^ 32 + b * 2 ^ (8 * k) % 2 ^ 32 ≡ withByte w k b
 with-byte-is w k b e h =
-    ap₂ (λ (x y : ℕ). w - x + y) (byte-shl w k e) (char-shl b k h e) ∙ put-is 256 (suc-le-suc zero-le) w k b
+    ap₂ (λ (x y : ℕ). w - x + y) (char-shl (byteOf w k) k (omega arith) e) (char-shl b k h e)
+    ∙ put-is 256 (omega arith) w k b

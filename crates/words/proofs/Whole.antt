@@ -1,21 +1,18 @@
--- Words and whole numbers: the signed view and the low 32 bits undo each other, and the low bits of a sum are the wrapped sum.
+-- Words and whole numbers: the signed view and the low 32 bits undo each other, the low bits of a sum are the wrapped sum,
+-- and the magnitude of sums, products and quotients is bounded.
 -- Assumes nothing.
 use Prim.Native.Nat.{ℕ, zero, suc, _+_, _*_, _-_, _/_, _%_, _^_, _≤_, _<_, suc-le-suc, zero-le}
-use mathlib.Core.Path.{_≡_, refl, sym, ap, ap₂, _∙_}
-use mathlib.Core.Bool.{Bool, true, false, cond}
-use native.Mathlib.Nat.{mod-eq-of-lt, mod-lt, le-of-lt, le-trans, mul-le-mul}
+use mathlib.Core.Path.{_≡_, refl, sym, ap, _∙_}
+use mathlib.Core.Bool.{Bool, true, false, cond, _&&_}
+use native.Mathlib.Nat.{mod-eq-of-lt, le-of-lt, le-suc, le-trans, mul-le-mul, div-le-self}
 use native.Mathlib.Omega.{arith}
-use lib.Dec.{ltb, leb·suc-suc}
+use lib.Dec.{ltb, leb, leb·suc-suc, eqb·suc-zero}
 use lib.IntN.{ℤ, pos, negsuc, negℤ, subℕ, _+ℤ_, _-ℤ_, _*ℤ_}
-use lib.Signed.{mag, ltZ, leZ}
-use lib.Bits.{bitAnd, and-mask}
-use mir.Syntax.{w64}
-use mir.Val.{toZ, ofZ}
-use mir.Facts.{toZ-pos}
+use lib.Signed.{mag, ltZ, leZ, quotZ}
 use borrow.Author.Tests.{lt-ltb, le-ltb, ltb-true, ltb-false}
 use Rattle.base.specs.Test.{if}
 use Rattle.base.proofs.Bool.{by-if}
-use Rattle.words.specs.Words.{signed, low, fits, plus, less, wrap}
+use Rattle.words.specs.Words.{signed, low, fits, positive, biased, sumFits, plus, less}
 
 pub signed-pos : (w : ℕ) → w < 2 ^ 31 → signed w ≡ pos w
 unfolding signed if
@@ -38,25 +35,55 @@ low-signed w h = by-signed (λ (z : ℤ). low z ≡ w) w (λ e. omega arith) (λ
 pub mag-signed : (w : ℕ) → w < 2 ^ 32 → mag (signed w) < 2 ^ 31
 mag-signed w h = by-signed (λ (z : ℤ). mag z < 2 ^ 31) w (λ e. e) (λ e. omega arith)
 
-pub signed-low : (n : ℤ) → mag n < 2 ^ 31 → signed (low n) ≡ n
-signed-low (pos n) h = ap signed (mod-eq-of-lt (wide n h)) ∙ signed-pos n h
+pub fits-signed : (w : ℕ) → w < 2 ^ 32 → fits (signed w) ≡ true
+unfolding fits
+fits-signed w h = lt-ltb (mag (signed w)) (2 ^ 31) (mag-signed w h)
+
+pub fits-mag : (n : ℤ) → fits n ≡ true → mag n < 2 ^ 31
+unfolding fits
+fits-mag n e = ltb-true (mag n) (2 ^ 31) e
+
+-- the test of a range that computes
+pub fits-is : (n : ℤ) → fits n ≡ (leZ (negsuc (2 ^ 31 - 1)) n && ltZ n (pos (2 ^ 31)))
+unfolding fits
+fits-is (pos n) = refl
+fits-is (negsuc n) = leb·suc-suc n (2 ^ 31 - 1) ∙ sym (and-true (leb n (2 ^ 31 - 1)))
   where
-    wide : (n : ℕ) → n < 2 ^ 31 → n < 2 ^ 32
-    wide n h = omega arith
-signed-low (negsuc n) h =
-    signed-neg (2 ^ 32 - 1 - n % 2 ^ 32) (upper n h) ∙ ap negsuc (back n h)
+    and-true : (t : Bool) → (t && true) ≡ t
+    and-true true = refl
+    and-true false = refl
+
+pub positive-is : (w : ℕ) → w < 2 ^ 32 → positive w ≡ ltZ (pos 0) (signed w)
+unfolding positive if
+positive-is zero h = ap (ltZ (pos 0)) (sym (signed-pos 0 (omega arith)))
+positive-is (suc w) h =
+    rw (eqb·suc-zero w)
+    (by-signed (λ (z : ℤ). ltb (suc w) (2 ^ 31) ≡ ltZ (pos 0) z) (suc w)
+    (λ e. lt-ltb (suc w) (2 ^ 31) e ∙ sym (lt-ltb 0 (suc w) (omega arith)))
+    (λ e. le-ltb (suc w) (2 ^ 31) e))
+
+wide : (n : ℕ) → n < 2 ^ 31 → n < 2 ^ 32
+wide n h = omega arith
+
+upper : (n : ℕ) → n < 2 ^ 31 → 2 ^ 31 ≤ 2 ^ 32 - 1 - n % 2 ^ 32
+upper n h = omega arith
+
+back : (n : ℕ) → n < 2 ^ 31 → 2 ^ 32 - 1 - (2 ^ 32 - 1 - n % 2 ^ 32) ≡ n
+back n h = omega arith
+
+pub signed-low : (n : ℤ) → fits n ≡ true → signed (low n) ≡ n
+signed-low n e = kept n (fits-mag n e)
   where
-    upper : (n : ℕ) → n < 2 ^ 31 → 2 ^ 31 ≤ 2 ^ 32 - 1 - n % 2 ^ 32
-    upper n h = omega arith
-    back : (n : ℕ) → n < 2 ^ 31 → 2 ^ 32 - 1 - (2 ^ 32 - 1 - n % 2 ^ 32) ≡ n
-    back n h = omega arith
+    kept : (n : ℤ) → mag n < 2 ^ 31 → signed (low n) ≡ n
+    kept (pos n) h = ap signed (mod-eq-of-lt (wide n h)) ∙ signed-pos n h
+    kept (negsuc n) h = signed-neg (2 ^ 32 - 1 - n % 2 ^ 32) (upper n h) ∙ ap negsuc (back n h)
 
 pub low-lt : (n : ℤ) → low n < 2 ^ 32
 low-lt (pos n) = omega arith
 low-lt (negsuc n) = omega arith
 
 -- the difference of two naturals, by the order
-by-sub : (P : ℤ → Type 0) (a b : ℕ) → (a < b → P (negsuc (b - suc a))) → (b ≤ a → P (pos (a - b))) → P (subℕ a b)
+pub by-sub : (P : ℤ → Type 0) (a b : ℕ) → (a < b → P (negsuc (b - suc a))) → (b ≤ a → P (pos (a - b))) → P (subℕ a b)
 by-sub P a b f g = cases (ltb a b) (λ e. f (ltb-true a b e)) (λ e. g (ltb-false a b e))
   where
     cases : (c : Bool) → (c ≡ true → P (negsuc (b - suc a))) → (c ≡ false → P (pos (a - b))) → P (cond c (negsuc (b - suc a)) (pos (a - b)))
@@ -82,47 +109,82 @@ low-sub x y = low-add x (negℤ y) ∙ ap (plus (low x)) (low-neg y) ∙ joined 
     joined : (a b : ℕ) → plus a (less 0 b) ≡ less a b
     joined a b = omega arith
 
--- bounds of sums, differences and products of numbers whose magnitude is below m
+-- two tests of order that agree
+ltb-same : (x y u v : ℕ) → (x < y → u < v) → (y ≤ x → v ≤ u) → ltb x y ≡ ltb u v
+ltb-same x y u v f g = cases (ltb x y) refl
+  where
+    cases : (t : Bool) → t ≡ ltb x y → ltb x y ≡ ltb u v
+    cases true e = sym e ∙ sym (lt-ltb u v (f (ltb-true x y (sym e))))
+    cases false e = sym e ∙ sym (le-ltb u v (g (ltb-false x y (sym e))))
+
+mag-neg-pos : (r : ℕ) → mag (negℤ (pos r)) ≤ r
+mag-neg-pos zero = zero-le
+mag-neg-pos (suc r) = le-suc r
+
+-- bounds of sums, products and quotients of numbers whose magnitude is below m
 module _ (m : ℕ) where
   pub mag-add : (x y : ℤ) → mag x < m → mag y < m → mag (x +ℤ y) < m + m
   mag-add (pos a) (pos b) h k = omega arith
-  mag-add (pos a) (negsuc b) h k = by-sub (λ (z : ℤ). mag z < m + m) a (suc b) (λ e. omega arith) (λ e. omega arith)
-  mag-add (negsuc a) (pos b) h k = by-sub (λ (z : ℤ). mag z < m + m) b (suc a) (λ e. omega arith) (λ e. omega arith)
+  mag-add (pos a) (negsuc b) h k =
+      by-sub (λ (z : ℤ). mag z < m + m) a (suc b) (λ e. omega arith) (λ e. omega arith)
+  mag-add (negsuc a) (pos b) h k =
+      by-sub (λ (z : ℤ). mag z < m + m) b (suc a) (λ e. omega arith) (λ e. omega arith)
   mag-add (negsuc a) (negsuc b) h k = omega arith
 
-  pub mag-neg : (x : ℤ) → mag x < m → mag (negℤ x) ≤ m
-  mag-neg (pos zero) h = zero-le
+  pub mag-neg : (x : ℤ) → mag x < m → mag (negℤ x) < suc m
+  mag-neg (pos zero) h = suc-le-suc zero-le
   mag-neg (pos (suc n)) h = omega arith
-  mag-neg (negsuc n) h = h
+  mag-neg (negsuc n) h = suc-le-suc h
 
--- what the machine makes of them in 64 bits
+  pub mag-mul : (x y : ℤ) → mag x < m → mag y < m → mag (x *ℤ y) < suc (m * m)
+  mag-mul (pos a) (pos b) h k = suc-le-suc (mul-le-mul (le-of-lt h) (le-of-lt k))
+  mag-mul (pos a) (negsuc b) h k = suc-le-suc (le-trans (mag-neg-pos (a * suc b)) (mul-le-mul (le-of-lt h) k))
+  mag-mul (negsuc a) (pos b) h k = suc-le-suc (le-trans (mag-neg-pos (suc a * b)) (mul-le-mul h (le-of-lt k)))
+  mag-mul (negsuc a) (negsuc b) h k = suc-le-suc (mul-le-mul h k)
 
--- a word less 2^32
-pub signed-less : (w : ℕ) → w < 2 ^ 32 → pos w -ℤ pos (2 ^ 32) ≡ negsuc (2 ^ 32 - 1 - w)
-signed-less w h =
-    by-sub (λ (z : ℤ). z ≡ negsuc (2 ^ 32 - 1 - w)) w (2 ^ 32) (λ e. ap negsuc (omega arith)) (λ e. absurd (omega arith))
+  pub mag-quot : (x y : ℤ) → mag x < m → mag (quotZ x y) < suc m
+  mag-quot (pos a) (pos b) h = suc-le-suc (le-trans (div-le-self a b) (le-of-lt h))
+  mag-quot (pos a) (negsuc b) h =
+      suc-le-suc (le-trans (mag-neg-pos (a / suc b)) (le-trans (div-le-self a (suc b)) (le-of-lt h)))
+  mag-quot (negsuc a) (pos b) h = suc-le-suc (le-trans (mag-neg-pos (suc a / b)) (le-trans (div-le-self (suc a) b) h))
+  mag-quot (negsuc a) (negsuc b) h = suc-le-suc (le-trans (div-le-self (suc a) (suc b)) h)
 
-pub wide-pos : (w : ℕ) → w < 2 ^ 32 → toZ w64 w ≡ pos w
-wide-pos w h = toZ-pos w64 (omega arith)
+-- a number with 2^32 added, for those that are at least -2^32
+abbrev raised : ℤ → ℕ
+raised (pos n) = n + 2 ^ 32
+raised (negsuc n) = 2 ^ 32 - suc n
 
--- the low 32 of 64 bits
-pub low-mask : (x : ℕ) → toZ w64 (bitAnd x (2 ^ 32 - 1)) ≡ pos (x % 2 ^ 32)
-low-mask x = ap (toZ w64) (and-mask x 32) ∙ wide-pos (x % 2 ^ 32) (omega arith)
+raised-sum : (a b : ℕ) → a < 2 ^ 32 → b < 2 ^ 32 → raised (signed a +ℤ signed b) ≡ biased a + biased b
+raised-sum a b ha hb =
+    by-signed (λ (x : ℤ). raised (x +ℤ signed b) ≡ biased a + biased b) a
+    (λ h.
+    by-signed (λ (y : ℤ). raised (pos a +ℤ y) ≡ biased a + biased b) b (λ k. omega arith)
+    (λ k. by-sub (λ (z : ℤ). raised z ≡ biased a + biased b) a (suc (2 ^ 32 - 1 - b)) (λ e. omega arith) (λ e. omega arith)))
+    (λ h.
+    by-signed (λ (y : ℤ). raised (negsuc (2 ^ 32 - 1 - a) +ℤ y) ≡ biased a + biased b) b
+    (λ k. by-sub (λ (z : ℤ). raised z ≡ biased a + biased b) b (suc (2 ^ 32 - 1 - a)) (λ e. omega arith) (λ e. omega arith))
+    (λ k. omega arith))
 
-pub low-bits : (n : ℤ) → mag n < 2 ^ 63 → ofZ w64 n % 2 ^ 32 ≡ low n
-low-bits (pos n) h = refl
-low-bits (negsuc n) h = omega arith
-
--- the range of a word, below 0 and from 0 on
-pub fits-below : (n : ℤ) → ltZ n (pos 0) ≡ true → leZ (negsuc (2 ^ 31 - 1)) n ≡ fits n
-unfolding fits
-fits-below (pos n) e = absurd (none (ltb-true n 0 e))
+fits-raised : (z : ℤ) → mag z < 2 ^ 32 → fits z ≡ if (ltb (raised z) (2 ^ 31)) false (ltb (raised z) (3 * 2 ^ 31))
+unfolding fits if
+fits-raised (pos n) h =
+    ltb-same n (2 ^ 31) (n + 2 ^ 32) (3 * 2 ^ 31) (λ e. omega arith) (λ e. omega arith)
+    ∙ rw (le-ltb (n + 2 ^ 32) (2 ^ 31) (omega arith))
+fits-raised (negsuc n) h = cases (ltb n (2 ^ 31)) refl
   where
-    none : {n : ℕ} → n < 0 → ⊥
-    none h = omega arith
-fits-below (negsuc n) e = sym (leb·suc-suc n (2 ^ 31 - 1))
+    high : n < 2 ^ 31 → 2 ^ 31 ≤ 2 ^ 32 - suc n
+    high k = omega arith
 
-pub fits-from : (n : ℤ) → ltZ n (pos 0) ≡ false → ltZ n (pos (2 ^ 31)) ≡ fits n
-unfolding fits
-fits-from (pos n) e = refl
-fits-from (negsuc n) e = cc
+    deep : 2 ^ 31 ≤ n → 2 ^ 32 - suc n < 2 ^ 31
+    deep k = omega arith
+
+    cases : (t : Bool) → t ≡ ltb n (2 ^ 31) → ltb n (2 ^ 31) ≡ if (ltb (2 ^ 32 - suc n) (2 ^ 31)) false (ltb (2 ^ 32 - suc n) (3 * 2 ^ 31))
+    cases true e = sym e ∙ rw (le-ltb (2 ^ 32 - suc n) (2 ^ 31) (high (ltb-true n (2 ^ 31) (sym e))), lt-ltb (2 ^ 32 - suc n) (3 * 2 ^ 31) (omega arith))
+    cases false e = sym e ∙ rw (lt-ltb (2 ^ 32 - suc n) (2 ^ 31) (deep (ltb-false n (2 ^ 31) (sym e))))
+
+-- the sum of two words fits exactly when their biased sum is from 2^31 to below 3 × 2^31
+pub fits-sum : (a b : ℕ) → a < 2 ^ 32 → b < 2 ^ 32 → fits (signed a +ℤ signed b) ≡ sumFits a b
+unfolding sumFits
+fits-sum a b ha hb =
+    fits-raised (signed a +ℤ signed b) (mag-add (2 ^ 31) (signed a) (signed b) (mag-signed a ha) (mag-signed b hb))
+    ∙ ap (λ (s : ℕ). if (ltb s (2 ^ 31)) false (ltb s (3 * 2 ^ 31))) (raised-sum a b ha hb)

@@ -1,21 +1,26 @@
 // Words of 32 bits: wrapped arithmetic, the signed view, characters of a word, shifts and bit operations.
 ghost use mathlib.Core.Path.{_≡_};
 ghost use Prim.Native.Nat.{_%_};
+ghost use lib.IntN.{negℤ, _+ℤ_, _-ℤ_, _*ℤ_};
+ghost use lib.Signed.{quotZ, remZ};
 ghost use Rattle.ops.specs.Machine.{cfpA, cfpB, cfpC};
 ghost use Rattle.words.specs.Words as W;
 
 // Supplied values: characters of the alphabet, bytes of a word, characters of a word, bits of a word [S The house machine].
 const CFP_A: u32 = 256;
+
 const CFP_B: u32 = 4;
+
 const CFP_C: u32 = 4;
+
 const CFP_N: u32 = 32;
 
-// The number of words, 2^CFP$N, and the first word that is negative when read as signed.
-const SPAN: u64 = 4294967296;
-const HALF: u32 = 2147483648;
+// The number of words; the first word that is negative when read as signed; the bits of a character.
+const SPAN: u64 = 1 << CFP_N;
 
-// The bits of a character.
-const CHAR_BITS: u32 = 8;
+const HALF: u32 = 1 << CFP_N - 1;
+
+const CHAR_BITS: u32 = CFP_N / CFP_C;
 
 // The wrapped sum.
 pub fn add(a: u32, b: u32) -> u32
@@ -32,7 +37,7 @@ pub fn sub(a: u32, b: u32) -> u32
 }
 
 // The address of the next word, and of the one before.
-pub fn next_word(a: u32) -> u32
+pub fn word_after(a: u32) -> u32
     ensures { λ r. ⌜ r ≡ W.plus a cfpB ⌝ }
 {
     add(a, CFP_B)
@@ -45,7 +50,7 @@ pub fn word_before(a: u32) -> u32
 }
 
 // The address of the next character, and of the one before.
-pub fn next_char(a: u32) -> u32
+pub fn char_after(a: u32) -> u32
     ensures { λ r. ⌜ r ≡ W.plus a 1 ⌝ }
 {
     add(a, 1)
@@ -57,18 +62,25 @@ pub fn char_before(a: u32) -> u32
     sub(a, 1)
 }
 
-// Words to bytes, the wrapped multiple by four [M 8.1].
-pub fn wtb(w: u32) -> u32
-    ensures { λ r. ⌜ r ≡ W.wtb w ⌝ }
+// The wrapped multiple by four, which is both bytes and characters of a word.
+fn times4(w: u32) -> u32
+    ensures { λ r. ⌜ r ≡ W.times w cfpB ⌝ }
 {
     (w as u64 * CFP_B as u64 % SPAN) as u32
 }
 
-// Words to characters, which are as many as bytes [M 8.10].
+// Words to bytes [M 8.1].
+pub fn wtb(w: u32) -> u32
+    ensures { λ r. ⌜ r ≡ W.wtb w ⌝ }
+{
+    times4(w)
+}
+
+// Words to characters [M 8.10].
 pub fn wtc(w: u32) -> u32
     ensures { λ r. ⌜ r ≡ W.wtc w ⌝ }
 {
-    wtb(w)
+    times4(w)
 }
 
 // Bytes to words, rounded down [M 8.2].
@@ -89,21 +101,25 @@ pub fn ctw(w: u32, v: u32) -> u32
 pub fn ctb(w: u32, v: u32) -> u32
     ensures { λ r. ⌜ r ≡ W.ctb w v ⌝ }
 {
-    wtb(ctw(w, v))
+    times4(ctw(w, v))
 }
 
 // The words that hold w characters.
 pub fn words_for(w: u32) -> u32
     ensures { λ r. ⌜ r ≡ W.wordsFor w ⌝ }
 {
-    ((w as u64 + 3) / CFP_C as u64) as u32
+    ((w as u64 + (CFP_C - 1) as u64) / CFP_C as u64) as u32
 }
 
 // The word read as signed.
 pub fn signed(w: u32) -> i64
     ensures { λ r. ⌜ r ≡ W.signed w ⌝ }
 {
-    if w < HALF { w as i64 } else { w as i64 - SPAN as i64 }
+    if w < HALF {
+        w as i64
+    } else {
+        w as i64 - SPAN as i64
+    }
 }
 
 // The low 32 bits of a signed number.
@@ -117,7 +133,11 @@ pub fn low(n: i64) -> u32
 pub fn fits(n: i64) -> bool
     ensures { λ r. ⌜ r ≡ W.fits n ⌝ }
 {
-    if n < 0 { -(HALF as i64) <= n } else { n < HALF as i64 }
+    if n < 0 {
+        -(HALF as i64) <= n
+    } else {
+        n < HALF as i64
+    }
 }
 
 // Whether the word, read as signed, is above 0.
@@ -125,6 +145,49 @@ pub fn positive(w: u32) -> bool
     ensures { λ r. ⌜ r ≡ W.positive w ⌝ }
 {
     if w == 0 { false } else { w < HALF }
+}
+
+// The signed sum, difference and product of two words, and a word negated: none of them wraps.
+pub fn sum(a: u32, b: u32) -> i64
+    ensures { λ r. ⌜ r ≡ W.signed a +ℤ W.signed b ⌝ }
+{
+    signed(a) + signed(b)
+}
+
+pub fn difference(a: u32, b: u32) -> i64
+    ensures { λ r. ⌜ r ≡ W.signed a -ℤ W.signed b ⌝ }
+{
+    signed(a) - signed(b)
+}
+
+pub fn product(a: u32, b: u32) -> i64
+    ensures { λ r. ⌜ r ≡ W.signed a *ℤ W.signed b ⌝ }
+{
+    signed(a) * signed(b)
+}
+
+pub fn negative(a: u32) -> i64
+    ensures { λ r. ⌜ r ≡ negℤ (W.signed a) ⌝ }
+{
+    difference(0, a)
+}
+
+// The signed quotient, cut toward zero; by 0 it is 0.
+pub fn quotient(a: u32, b: u32) -> i64
+    ensures { λ r. ⌜ r ≡ quotZ (W.signed a) (W.signed b) ⌝ }
+{
+    if b == 0 { 0 } else { signed(a) / signed(b) }
+}
+
+// The signed remainder, with the dividend's sign; by 0 it is the dividend.
+pub fn remainder(a: u32, b: u32) -> i64
+    ensures { λ r. ⌜ r ≡ remZ (W.signed a) (W.signed b) ⌝ }
+{
+    if b == 0 {
+        signed(a)
+    } else {
+        signed(a) % signed(b)
+    }
 }
 
 // The character at address a of its word w.
@@ -139,15 +202,19 @@ pub fn with_byte(w: u32, a: u32, b: u32) -> u32
     ensures { λ r. ⌜ r ≡ W.withByte w (a % cfpC) (b % cfpA) ⌝ }
 {
     let at = CHAR_BITS * (a % CFP_C);
-    let old = (w >> at) % CFP_A;
-    w - (old << at) + ((b % CFP_A) << at)
+    w - (byte_of(w, a) << at) + ((b % CFP_A) << at)
 }
 
 // The four characters of a word, the lowest first.
-pub fn bytes_of(w: u32) -> [u8; 4]
+pub fn bytes_of(w: u32) -> [u8; CFP_C as usize]
     ensures { λ r. ⌜ r ≡ W.bytesOf w ⌝ }
 {
-    [byte_of(w, 0) as u8, byte_of(w, 1) as u8, byte_of(w, 2) as u8, byte_of(w, 3) as u8]
+    [
+        byte_of(w, 0) as u8,
+        byte_of(w, 1) as u8,
+        byte_of(w, 2) as u8,
+        byte_of(w, 3) as u8,
+    ]
 }
 
 // The word of four characters, the lowest first.

@@ -1,3 +1,5 @@
+-- `words::signed` meets its contract: below 2^31 the word itself, from there on the word less 2^32.
+-- Assumes nothing.
 use Prim.Native.Nat.{_^_}
 use lib.IntN.{ℤ, pos, _-ℤ_}
 use mir.Syntax.{w64}
@@ -5,12 +7,11 @@ use mir.Val.{toZ, ofZ}
 use mir.Facts.{toZ-ofZ}
 use native.Mathlib.Omega.{arith}
 use mathlib.Core.Path.{sym, _∙_, ap}
-use Rattle.words.proofs.Whole.{signed-pos, signed-neg, signed-less, wide-pos}
+use Rattle.words.proofs.Whole.{signed-pos, signed-neg}
+use Rattle.words.proofs.Wide.{signed-less, wide-pos}
 use borrow.Author.Needs.{needs}
 use Rattle.words.proofs.signed.Statement.{statement}
 use Rattle.words.proofs.signed.Tie as tie
-use Rattle.words.proofs.signed.Reads as reads
-use Rattle.words.proofs.signed.Lts as lts
 
 cast-result : tie.Need-cast-result
 cast-result c = search needs
@@ -28,7 +29,7 @@ returns : tie.Need-returns
 returns c = wide-pos _ (c .before .fits .w .fits) ∙ sym (signed-pos _ (c .if1 .taken))
 
 returns-2 : tie.Need-returns-2
-returns-2 c = 
+returns-2 c =
     ap (λ (z : ℤ). toZ w64 (ofZ w64 (z -ℤ pos (2 ^ 32)))) (wide-pos _ (c .before .fits .w .fits))
     ∙ ap (λ (z : ℤ). toZ w64 (ofZ w64 z)) (signed-less _ (c .before .fits .w .fits))
     ∙ toZ-ofZ {w = w64} (record { sfits = omega arith })

@@ -1,0 +1,31 @@
+-- `words::remainder` meets its contract: the quotient of two words has room in 64 bits; by 0 the definition is the dividend.
+-- Assumes nothing.
+use mathlib.Core.Path.{sym, _∙_}
+use lib.Signed.{quotZ, remZ}
+use Rattle.words.proofs.Wide.{machine-fits, machine-value, quotient-room, remainder-room, bits-pos, signed-back, signed-zero, rem-zero}
+use borrow.Author.Needs.{needs}
+use Rattle.words.proofs.remainder.Statement.{statement}
+use Rattle.words.proofs.remainder.Tie as tie
+
+signed-requires : tie.Need-signed-requires
+signed-requires c κs = search needs
+
+signed-requires-2 : tie.Need-signed-requires-2
+signed-requires-2 c κs = search needs
+
+signed-requires-3 : tie.Need-signed-requires-3
+signed-requires-3 c κs = search needs
+
+rem-result : tie.Need-rem-result
+rem-result c = (bits-pos _ (c .before .before .if1 .left) (c .before .before .before .fits .b .fits) (c .signed3 .ensures), machine-fits quotZ _ _ (c .before .before .before .fits .a .fits) (c .before .before .before .fits .b .fits) (c .before .signed2 .ensures) (c .signed3 .ensures) (quotient-room _ _ (c .before .before .before .fits .a .fits) (c .before .before .before .fits .b .fits)))
+
+returns : tie.Need-returns
+returns c = rw (signed-zero (c .before .if1 .taken)) (signed-back _ (c .before .before .fits .a .fits) (c .signed .ensures) ∙ sym (rem-zero _))
+
+returns-2 : tie.Need-returns-2
+returns-2 c = machine-value remZ _ _ (c .before .before .before .fits .a .fits) (c .before .before .before .fits .b .fits) (c .before .signed2 .ensures) (c .signed3 .ensures) (remainder-room _ _ (c .before .before .before .fits .a .fits) (c .before .before .before .fits .b .fits))
+
+pub remainder-spec : {M : Type 1} → statement M
+remainder-spec =
+    tie.close
+    (tie.spec signed-requires signed-requires-2 signed-requires-3 rem-result returns returns-2)
