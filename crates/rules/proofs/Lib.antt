@@ -7,3 +7,12 @@ pub mod Steps
 pub mod Runs
 pub mod Demand
 pub mod Starts
+pub mod Operands
+pub mod Slots
+pub mod Loops
+pub mod Budget
+pub mod Faulting
+pub mod Fields
+pub mod Keeps
+pub mod Lasts
+pub mod Canonical
