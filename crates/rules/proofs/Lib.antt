@@ -16,3 +16,10 @@ pub mod Fields
 pub mod Keeps
 pub mod Lasts
 pub mod Canonical
+pub mod Bytes
+pub mod Memory
+pub mod Files
+pub mod Restores
+pub mod Plains
+pub mod Snapshots
+pub mod Samples
