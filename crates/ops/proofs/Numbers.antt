@@ -16,7 +16,7 @@ use Rattle.ops.specs.Ops.{Row, rows, classIn, opIn, idle}
 use Rattle.ops.specs.Lookup.{firstWith, byNumber, rowOfNumber, noRow, rowAt}
 use Rattle.ops.specs.Numbers.{numberOf, isSingle}
 use Rattle.ops.specs.declared.lookup.Lookup.the-variants as found
-use Rattle.ops.proofs.Classes.{is-eq}
+use Rattle.ops.proofs.Classes.{is-eq, classes, every-class}
 use Rattle.ops.proofs.Every.{every}
 use Rattle.ops.proofs.First.{row-known, Holds, first-sound}
 
@@ -27,6 +27,14 @@ numbered i r = if (isSingle (r .class)) (eqb (r .number) (numberOf (r .class))) 
 all-numbered : Ok (every numbered 0 rows)
 unfolding rows Ok _and_ if
 all-numbered = tt
+
+-- the number of a class that one operation alone has is of that class
+abbrev owned : Class → Bool
+owned c = if (isSingle c) (is (classIn (numberOf c) rows) c) true
+
+all-owned : Ok (every (λ (i : ℕ) (c : Class). owned c) 0 classes)
+unfolding rows Ok _and_ if
+all-owned = tt
 
 number-in : (op : ℕ) (c : Class) → Ok (isSingle c) → (rs : List Row) (s : ℕ) → Ok (every numbered s rs) → classIn op rs ≡ c → op ≡ numberOf c
 number-in op c z [] s t e = absurd (failed (subst (λ (d : Class). Ok (isSingle d)) (sym e) z))
@@ -42,6 +50,10 @@ number-in op c z (r ∷ rs) s t k =
 -- an operation whose class is c has c's number, where one operation alone has c
 pub number-of : (op : ℕ) (c : Class) → Ok (isSingle c) → Ok (is (classIn op rows) c) → op ≡ numberOf c
 number-of op c z h = number-in op c z rows 0 all-numbered (is-eq _ _ h)
+
+-- c's number has the class c, where one operation alone has c
+pub class-of : (c : Class) → Ok (isSingle c) → classIn (numberOf c) rows ≡ c
+class-of c z = is-eq _ _ (subst Ok (if-true _ _ _ z) (every-class owned all-owned c))
 
 -- the class and the data operation that a number has are those of its row
 pub record RowOf (n : ℕ) (rs : List Row) (r : Row) : Type 0 where

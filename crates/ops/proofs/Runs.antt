@@ -53,7 +53,7 @@ module _ (lo hi first count start : ℕ) (t : Ok (isRun lo hi first count start)
 
   -- a number of the window is looked up in the run
   pub run-number : (n : ℕ) → lo ≤ n → n < hi → inRun n first count start ≡ rowOfNumber n
-  unfolding isRun if
+  unfolding inRun isRun if
   run-number n g l = go (ltb n first) (ltb (n - first) count) refl refl
     where
       bounds : (lo ≤ first) × (first + count ≤ hi) × (start + count ≤ 89)

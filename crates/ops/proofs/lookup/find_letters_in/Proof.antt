@@ -11,9 +11,6 @@ use Rattle.ops.proofs.First.{loop-here, loop-next, loop-last}
 use Rattle.ops.proofs.Rows.{table-count, table-letters}
 use Rattle.ops.proofs.lookup.find_letters_in.Statement.{statement}
 use Rattle.ops.proofs.lookup.find_letters_in.Tie as tie
-use Rattle.ops.proofs.lookup.find_letters_in.Reads as reads
-use Rattle.ops.proofs.lookup.find_letters_in.Lts as lts
-use Rattle.ops.proofs.lookup.pack.Reads as pack-reads
 
 abbrev Inv-loop : tie.InvT-loop
 Inv-loop table a b c key i₀ i = (i ≤ 89) × (firstWith byCell key i (drop i table) ≡ rowOfLetters a b c)

@@ -13,10 +13,6 @@ use Rattle.ops.proofs.First.{loop-here, loop-next, loop-last, cells-cou
 use Rattle.ops.proofs.Supplies.{supplies-count, value-word, names-found}
 use Rattle.ops.proofs.supplied.supplied_value.Statement.{statement}
 use Rattle.ops.proofs.supplied.supplied_value.Tie as tie
-use Rattle.ops.proofs.supplied.supplied_value.Reads as reads
-use Rattle.ops.proofs.supplied.supplied_value.Lts as lts
-use Rattle.ops.proofs.supplied.pack_name.Reads as pack-name-reads
-use Rattle.ops.proofs.supplied.supplies.Reads as supplies-reads
 
 abbrev Inv-loop : tie.InvT-loop
 Inv-loop a b c d e key table i₀ i = (i ≤ 44) × (table ≡ map supplyCells supplies) × (valueAt (firstWith byCell key i (drop i table)) ≡ suppliedOf a b c d e)
