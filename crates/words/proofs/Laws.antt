@@ -15,7 +15,7 @@ pub use Rattle.words.proofs.Shifts.{shiftRight-is, shiftLeft-is}
 -- ---- the signed view: the statements stand in Whole.antt
 
 pub use Rattle.words.proofs.Whole.{signed-pos, signed-neg, by-signed, mag-signed, fits-signed, fits-mag, fits-is, positive-is}
-pub use Rattle.words.proofs.Whole.{low-lt, low-signed, signed-low, low-add, low-neg, low-sub, fits-sum}
+pub use Rattle.words.proofs.Whole.{low-lt, low-signed, signed-low, low-add, low-neg, low-sub, fits-sum, signed-order}
 pub use Rattle.words.proofs.Whole.{mag-add, mag-neg, mag-mul, mag-quot}
 
 -- ---- wrapped arithmetic, over the width k

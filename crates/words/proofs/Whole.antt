@@ -117,6 +117,19 @@ ltb-same x y u v f g = cases (ltb x y) refl
     cases true e = sym e ∙ sym (lt-ltb u v (f (ltb-true x y (sym e))))
     cases false e = sym e ∙ sym (le-ltb u v (g (ltb-false x y (sym e))))
 
+-- the signed order is the order of the biased words
+pub signed-order : (a b : ℕ) → a < 2 ^ 32 → b < 2 ^ 32 → ltZ (signed a) (signed b) ≡ ltb (biased a) (biased b)
+signed-order a b ha hb =
+    by-signed (λ (x : ℤ). ltZ x (signed b) ≡ ltb (biased a) (biased b)) a
+    (λ h.
+    by-signed (λ (y : ℤ). ltZ (pos a) y ≡ ltb (biased a) (biased b)) b
+    (λ k. ltb-same a b (biased a) (biased b) (λ e. omega arith) (λ e. omega arith))
+    (λ k. sym (le-ltb (biased a) (biased b) (omega arith))))
+    (λ h.
+    by-signed (λ (y : ℤ). ltZ (negsuc (2 ^ 32 - 1 - a)) y ≡ ltb (biased a) (biased b)) b
+    (λ k. sym (lt-ltb (biased a) (biased b) (omega arith)))
+    (λ k. ltb-same (2 ^ 32 - 1 - b) (2 ^ 32 - 1 - a) (biased a) (biased b) (λ e. omega arith) (λ e. omega arith)))
+
 mag-neg-pos : (r : ℕ) → mag (negℤ (pos r)) ≤ r
 mag-neg-pos zero = zero-le
 mag-neg-pos (suc r) = le-suc r

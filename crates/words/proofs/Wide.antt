@@ -52,14 +52,14 @@ pub signed-back : (w : ℕ) {r : ℤ} → w < 2 ^ 32 → r ≡ signed w → toZ 
 signed-back w h e =
     ap (λ (z : ℤ). toZ w64 (ofZ w64 z)) e ∙ toZ-ofZ {w = w64} (record { sfits = omega (arith, mag-signed w h) })
 
--- an operation of two words, read as signed, whose result has room in 64 bits
-module _ (op : ℤ → ℤ → ℤ) {r s : ℤ} (a b : ℕ) (ha : a < 2 ^ 32) (hb : b < 2 ^ 32) (e : r ≡ signed a) (f : s ≡ signed b)
-    (room : SFits w64 (op (signed a) (signed b))) where
+-- an operation of two words, read as signed, whose results have room in 64 bits
+module _ (op : ℤ → ℤ → ℤ) (room : (a b : ℕ) → a < 2 ^ 32 → b < 2 ^ 32 → SFits w64 (op (signed a) (signed b)))
+    (a b : ℕ) {r s : ℤ} (ha : a < 2 ^ 32) (hb : b < 2 ^ 32) (e : r ≡ signed a) (f : s ≡ signed b) where
   pub machine-fits : SFits w64 (op (toZ w64 (ofZ w64 r)) (toZ w64 (ofZ w64 s)))
-  machine-fits = rw (signed-back a ha e, signed-back b hb f) room
+  machine-fits = rw (signed-back a ha e, signed-back b hb f) (room a b ha hb)
 
   pub machine-value : toZ w64 (ofZ w64 (op (toZ w64 (ofZ w64 r)) (toZ w64 (ofZ w64 s)))) ≡ op (signed a) (signed b)
-  machine-value = rw (signed-back a ha e, signed-back b hb f) (toZ-ofZ room)
+  machine-value = rw (signed-back a ha e, signed-back b hb f) (toZ-ofZ (room a b ha hb))
 
 -- the results that have room
 module _ (a b : ℕ) (ha : a < 2 ^ 32) (hb : b < 2 ^ 32) where

@@ -36,26 +36,28 @@ pub fn sub(a: u32, b: u32) -> u32
     std::num::wrapping_sub_u32(a, b)
 }
 
-// The address of the next word, and of the one before.
+// The address of the word after the one at a.
 pub fn word_after(a: u32) -> u32
     ensures { λ r. ⌜ r ≡ W.plus a cfpB ⌝ }
 {
     add(a, CFP_B)
 }
 
+// The address of the word before the one at a.
 pub fn word_before(a: u32) -> u32
     ensures { λ r. ⌜ r ≡ W.less a cfpB ⌝ }
 {
     sub(a, CFP_B)
 }
 
-// The address of the next character, and of the one before.
+// The address of the character after the one at a.
 pub fn char_after(a: u32) -> u32
     ensures { λ r. ⌜ r ≡ W.plus a 1 ⌝ }
 {
     add(a, 1)
 }
 
+// The address of the character before the one at a.
 pub fn char_before(a: u32) -> u32
     ensures { λ r. ⌜ r ≡ W.less a 1 ⌝ }
 {
@@ -147,26 +149,29 @@ pub fn positive(w: u32) -> bool
     if w == 0 { false } else { w < HALF }
 }
 
-// The signed sum, difference and product of two words, and a word negated: none of them wraps.
+// The signed sum of two words, which does not wrap.
 pub fn sum(a: u32, b: u32) -> i64
     ensures { λ r. ⌜ r ≡ W.signed a +ℤ W.signed b ⌝ }
 {
     signed(a) + signed(b)
 }
 
+// Their signed difference.
 pub fn difference(a: u32, b: u32) -> i64
     ensures { λ r. ⌜ r ≡ W.signed a -ℤ W.signed b ⌝ }
 {
     signed(a) - signed(b)
 }
 
+// Their signed product.
 pub fn product(a: u32, b: u32) -> i64
     ensures { λ r. ⌜ r ≡ W.signed a *ℤ W.signed b ⌝ }
 {
     signed(a) * signed(b)
 }
 
-pub fn negative(a: u32) -> i64
+// The word's signed value, negated.
+pub fn negation(a: u32) -> i64
     ensures { λ r. ⌜ r ≡ negℤ (W.signed a) ⌝ }
 {
     difference(0, a)

@@ -15,13 +15,19 @@ signed-requires-2 : tie.Need-signed-requires-2
 signed-requires-2 c κs = search needs
 
 div-result : tie.Need-div-result
-div-result c = (bits-pos _ (c .before .before .if1 .left) (c .before .before .before .fits .b .fits) (c .signed2 .ensures), machine-fits quotZ _ _ (c .before .before .before .fits .a .fits) (c .before .before .before .fits .b .fits) (c .before .signed .ensures) (c .signed2 .ensures) (quotient-room _ _ (c .before .before .before .fits .a .fits) (c .before .before .before .fits .b .fits)))
+div-result c = (
+  bits-pos _ (c .before .before .if1 .left) (c .before .before .before .fits .b .fits) (c .signed2 .ensures),
+  machine-fits quotZ quotient-room _ _ (c .before .before .before .fits .a .fits) (c .before .before .before .fits .b .fits)
+      (c .before .signed .ensures) (c .signed2 .ensures),
+)
 
 returns : tie.Need-returns
 returns c = rw (signed-zero (c .if1 .taken)) (sym (quot-zero (signed (c .before .args .a))))
 
 returns-2 : tie.Need-returns-2
-returns-2 c = machine-value quotZ _ _ (c .before .before .before .fits .a .fits) (c .before .before .before .fits .b .fits) (c .before .signed .ensures) (c .signed2 .ensures) (quotient-room _ _ (c .before .before .before .fits .a .fits) (c .before .before .before .fits .b .fits))
+returns-2 c =
+    machine-value quotZ quotient-room _ _ (c .before .before .before .fits .a .fits) (c .before .before .before .fits .b .fits)
+    (c .before .signed .ensures) (c .signed2 .ensures)
 
 pub quotient-spec : {M : Type 1} → statement M
 quotient-spec = tie.close (tie.spec signed-requires signed-requires-2 div-result returns returns-2)

@@ -17,13 +17,19 @@ signed-requires-3 : tie.Need-signed-requires-3
 signed-requires-3 c κs = search needs
 
 rem-result : tie.Need-rem-result
-rem-result c = (bits-pos _ (c .before .before .if1 .left) (c .before .before .before .fits .b .fits) (c .signed3 .ensures), machine-fits quotZ _ _ (c .before .before .before .fits .a .fits) (c .before .before .before .fits .b .fits) (c .before .signed2 .ensures) (c .signed3 .ensures) (quotient-room _ _ (c .before .before .before .fits .a .fits) (c .before .before .before .fits .b .fits)))
+rem-result c = (
+  bits-pos _ (c .before .before .if1 .left) (c .before .before .before .fits .b .fits) (c .signed3 .ensures),
+  machine-fits quotZ quotient-room _ _ (c .before .before .before .fits .a .fits) (c .before .before .before .fits .b .fits)
+      (c .before .signed2 .ensures) (c .signed3 .ensures),
+)
 
 returns : tie.Need-returns
 returns c = rw (signed-zero (c .before .if1 .taken)) (signed-back _ (c .before .before .fits .a .fits) (c .signed .ensures) ∙ sym (rem-zero _))
 
 returns-2 : tie.Need-returns-2
-returns-2 c = machine-value remZ _ _ (c .before .before .before .fits .a .fits) (c .before .before .before .fits .b .fits) (c .before .signed2 .ensures) (c .signed3 .ensures) (remainder-room _ _ (c .before .before .before .fits .a .fits) (c .before .before .before .fits .b .fits))
+returns-2 c =
+    machine-value remZ remainder-room _ _ (c .before .before .before .fits .a .fits) (c .before .before .before .fits .b .fits)
+    (c .before .signed2 .ensures) (c .signed3 .ensures)
 
 pub remainder-spec : {M : Type 1} → statement M
 remainder-spec =
