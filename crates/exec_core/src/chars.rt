@@ -1,0 +1,1 @@
+// Characters: the operands of LCH and SCH, which point to one.
