@@ -254,3 +254,19 @@ place-kind {o} s = ok-eq (o .kind) 6 (s .taken)
 pub toward-suc : (b x : ℕ) → 0 < x → 8 * x + 64 ≡ towardOr b x
 toward-suc b zero h = absurd (omega arith)
 toward-suc b (suc q) h = omega arith
+
+-- an operand that points to a character and is not -(X) is at z[reg]
+pointing-by : (f : Form) (n : ℕ) (z : List ℕ) (o : Operand) → isPointing f ≡ true → isFalling f ≡ false → spotBy f n z o ≡ address (z at o .reg)
+pointing-by value n z o e h = let q : _≡_ {A = ℕ} 0 1 = cc in absurd (omega arith)
+pointing-by register n z o e h = let q : _≡_ {A = ℕ} 0 1 = cc in absurd (omega arith)
+pointing-by direct n z o e h = let q : _≡_ {A = ℕ} 0 1 = cc in absurd (omega arith)
+pointing-by indirect n z o e h = refl
+pointing-by rising n z o e h = refl
+pointing-by falling n z o e h = let q : _≡_ {A = ℕ} 0 1 = cc in absurd (omega arith)
+pointing-by indexed n z o e h = let q : _≡_ {A = ℕ} 0 1 = cc in absurd (omega arith)
+
+pub spot-pointing : (n : ℕ) (z : List ℕ) (o : Operand) → Sound pointing o → (o .kind ≡ 11 → ⊥) → spotOf n z o ≡ address (z at o .reg)
+unfolding spotOf
+spot-pointing n z o s h =
+    let r = form-tests (o .kind) (s .known) in
+    pointing-by (formOf (o .kind)) n z o (sym (r .points) ∙ test-true _ (s .taken)) (sym (r .falls) ∙ ne-eqb (o .kind) 11 h)

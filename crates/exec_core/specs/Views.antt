@@ -71,6 +71,10 @@ answered way z m (trap e) = shown (trapNumber e) z m
 abbrev pub AnyWay : ℕ → After → List ℕ → List ℕ → (ℕ → Effect) → Type 0
 AnyWay on a z m e = (way : ℕ → ℕ) (k : ℕ) → way k ≡ on → a ≡ answered way z m (e k)
 
+-- the same of an effect that hands over 0
+abbrev pub Onward : ℕ → After → List ℕ → List ℕ → Effect → Type 0
+Onward on a z m e = (way : ℕ → ℕ) → way 0 ≡ on → a ≡ answered way z m e
+
 -- the data operation o of the entry at b, with k open calls and c constant words; and what its code shows
 abbrev pub effectAt : List ℕ → ℕ → ℕ → ℕ → List ℕ → List ℕ → Op → Effect
 effectAt t b k c z m o = doing t k c (operandAt t (b + 1)) (operandAt t (b + 4)) z m o
