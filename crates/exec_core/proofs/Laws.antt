@@ -270,3 +270,7 @@ unfolding spotOf
 spot-pointing n z o s h =
     let r = form-tests (o .kind) (s .known) in
     pointing-by (formOf (o .kind)) n z o (sym (r .points) ∙ test-true _ (s .taken)) (sym (r .falls) ∙ ne-eqb (o .kind) 11 h)
+
+-- the same, of the words that an operand has left
+pub kept-zero : (n : ℕ) (z : List ℕ) (o : Operand) {z1 : List ℕ} → z1 ≡ movedOf n z o → Sound readable o → z at 0 ≡ 0 → z1 at 0 ≡ 0
+kept-zero n z o e s h = ap (λ (l : List ℕ). l at 0) e ∙ moved-zero n z o s h

@@ -2,14 +2,15 @@
 -- Assumes nothing.
 use Prim.Native.Nat.{ℕ, _+_, _<_, _≤_}
 use mathlib.Core.Path.{_≡_}
-use mathlib.Core.Bool.{Bool, true, false}
-use mathlib.Core.List.{List}
+use mathlib.Core.Bool.{Bool, true, false, not}
+use mathlib.Core.List.{List, [], _∷_}
 use lib.Dec.{eqb, ltb, leb}
 use lib.ListN.{length}
-use Rattle.base.specs.Test.{Ok, _or_, if}
-use Rattle.base.specs.Lists.{_at_}
+use Rattle.base.specs.Test.{Ok, _and_, _or_, if}
+use Rattle.base.specs.Lists.{_at_, member}
 use Rattle.ops.specs.Machine.{maxInstrs, WC}
-use Rattle.ops.specs.Format.{addressKind, placeKind, xKind, wKind, indirectKind, fallingKind, indexedKind}
+use Rattle.ops.specs.Ops.{Row}
+use Rattle.ops.specs.Format.{Format, noKind, addressKind, placeKind, xKind, wKind, indirectKind, fallingKind, indexedKind}
 use Rattle.rules.specs.Table.{entryAt, entryWords}
 use Rattle.rules.specs.Check.{among}
 use Rattle.rules.specs.Operand.{Operand, Form, value, register, direct, indirect, rising, falling, indexed, formOf}
@@ -71,3 +72,17 @@ pub record Entry (f g : ℕ → Bool) (h : Bool) (t : List ℕ) (b : ℕ) (z : L
   pub one : Sound f (operandAt t (b + 1))
   pub two : Sound g (operandAt t (b + 4))
   pub third : Third h (t at (b + 7))
+
+-- Whether the row of the operation n takes no kinds but those of f and g, and asks for a third operand where h does.
+unfoldable pub allTake : (ℕ → Bool) → List ℕ → Bool
+allTake f [] = true
+allTake f (k ∷ ks) = (readable k and f k) and allTake f ks
+
+unfoldable pub formatTakes : (ℕ → Bool) → Format → Bool
+formatTakes f x = allTake f (x .kinds) and leb (x .lastX) WC
+
+unfoldable pub takes : (ℕ → Bool) → (ℕ → Bool) → Bool → ℕ → List Row → Bool
+takes f g h n [] = true
+takes f g h n (r ∷ rs) =
+    if (eqb n (r .number)) (formatTakes f (r .one) and formatTakes g (r .two) and (not h or not (member noKind (r .three .kinds))))
+    (takes f g h n rs)

@@ -75,9 +75,13 @@ AnyWay on a z m e = (way : ℕ → ℕ) (k : ℕ) → way k ≡ on → a ≡ ans
 abbrev pub Onward : ℕ → After → List ℕ → List ℕ → Effect → Type 0
 Onward on a z m e = (way : ℕ → ℕ) → way 0 ≡ on → a ≡ answered way z m e
 
--- the data operation o of the entry at b, with k open calls and c constant words; and what its code shows
+-- the data operation o of the entry at b, with k open calls and c constant words
 abbrev pub effectAt : List ℕ → ℕ → ℕ → ℕ → List ℕ → List ℕ → Op → Effect
 effectAt t b k c z m o = doing t k c (operandAt t (b + 1)) (operandAt t (b + 4)) z m o
 
+-- what its code shows: an operation that goes on, and one that goes on or branches
 abbrev pub does : List ℕ → ℕ → ℕ → ℕ → List ℕ → List ℕ → Op → After
-does t b k c z m o = answered (wayOf t b) z m (effectAt t b k c z m o)
+does t b k c z m o = answered (λ j. onward b) z m (effectAt t b k c z m o)
+
+abbrev pub branches : List ℕ → ℕ → ℕ → ℕ → List ℕ → List ℕ → Op → After
+branches t b k c z m o = answered (wayOf t b) z m (effectAt t b k c z m o)

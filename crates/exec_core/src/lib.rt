@@ -29,16 +29,25 @@ pub struct Answer {
 
 impl Answer {
     pub const BAD_ADDRESS: usize = 22;
+
     pub const CONSTANT_WRITE: usize = 23;
+
     pub const NO_ENTRY: usize = 24;
+
     pub const NO_CASE: usize = 25;
+
     pub const IMPOSSIBLE_EXIT: usize = 26;
+
     pub const LINKS_FULL: usize = 27;
+
     pub const ABOVE_COUNT: usize = 28;
+
     pub const BAD_DIGIT: usize = 29;
+
     pub const BASE: usize = 64;
     // Words of an entry, and what is added to its offset to go on.
     pub const ENTRY: usize = 8;
+
     pub const ON: usize = 72;
 }
 
@@ -49,7 +58,10 @@ pub struct Kind {
 
 impl Kind {
     pub const ADDRESS: u32 = 3;
+
     pub const INDIRECT: u32 = 9;
+
     pub const RISING: u32 = 10;
+
     pub const FALLING: u32 = 11;
 }
