@@ -33,7 +33,7 @@ pub fn char_act(z: &mut [u32; 16], o: Operand)
 {
     let x = index(o.reg);
     if o.kind == Kind::RISING {
-        z[x] = words::next_char(z[x]);
+        z[x] = words::char_after(z[x]);
     } else if o.kind == Kind::FALLING {
         z[x] = words::char_before(z[x]);
     }

@@ -100,7 +100,7 @@ pub fn act(z: &mut [u32; 16], o: Operand)
 {
     let x = index(o.reg);
     if o.kind == Kind::RISING {
-        z[x] = words::next_word(z[x]);
+        z[x] = words::word_after(z[x]);
     } else if o.kind == Kind::FALLING {
         z[x] = words::word_before(z[x]);
     }

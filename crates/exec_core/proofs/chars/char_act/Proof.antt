@@ -9,23 +9,23 @@ use Rattle.exec_core.proofs.chars.char_act.Reads as reads
 use Rattle.exec_core.proofs.chars.char_act.Lts as lts
 use Rattle.exec_core.proofs.operands.index.Reads as index-reads
 use Rattle.words.proofs.char_before.Reads as char-before-reads
-use Rattle.words.proofs.next_char.Reads as next-char-reads
+use Rattle.words.proofs.char_after.Reads as char-after-reads
 
 -- src/chars.rt:34:9
 index-requires : tie.Need-index-requires
 index-requires c κs = search needs
 
 -- src/chars.rt:36:33
-mul-next-char : tie.Need-mul-next-char
-mul-next-char c = search needs
+mul-char-after : tie.Need-mul-char-after
+mul-char-after c = search needs
 
 -- src/chars.rt:36:33
-element-copy-out-next-char : tie.Need-element-copy-out-next-char
-element-copy-out-next-char c = search needs
+element-copy-out-char-after : tie.Need-element-copy-out-char-after
+element-copy-out-char-after c = search needs
 
 -- src/chars.rt:36:16
-next-char-requires : tie.Need-next-char-requires
-next-char-requires c κs = search needs
+char-after-requires : tie.Need-char-after-requires
+char-after-requires c κs = search needs
 
 -- src/chars.rt:36:9
 mul-z : tie.Need-mul-z
@@ -58,7 +58,7 @@ element-write-z-2 c = search needs
 -- src/chars.rt:30:1
 returns : tie.Need-returns
 unfolding movedOf if
-returns c = rw (c .before .before .if1 .taken, c .next-char .ensures, c .before .before .before .before .index .ensures)
+returns c = rw (c .before .before .if1 .taken, c .char-after .ensures, c .before .before .before .before .index .ensures)
 
 -- src/chars.rt:30:1
 returns-2 : tie.Need-returns-2
@@ -74,9 +74,9 @@ char-act-spec =
     tie.close
     (tie.spec
     index-requires
-    mul-next-char
-    element-copy-out-next-char
-    next-char-requires
+    mul-char-after
+    element-copy-out-char-after
+    char-after-requires
     mul-z
     element-write-z
     mul-char-before

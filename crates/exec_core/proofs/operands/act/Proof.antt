@@ -8,7 +8,7 @@ use Rattle.exec_core.proofs.operands.act.Tie as tie
 use Rattle.exec_core.proofs.operands.act.Reads as reads
 use Rattle.exec_core.proofs.operands.act.Lts as lts
 use Rattle.exec_core.proofs.operands.index.Reads as index-reads
-use Rattle.words.proofs.next_word.Reads as next-word-reads
+use Rattle.words.proofs.word_after.Reads as word-after-reads
 use Rattle.words.proofs.word_before.Reads as word-before-reads
 
 -- src/operands.rt:101:9
@@ -16,16 +16,16 @@ index-requires : tie.Need-index-requires
 index-requires c κs = search needs
 
 -- src/operands.rt:103:33
-mul-next-word : tie.Need-mul-next-word
-mul-next-word c = search needs
+mul-word-after : tie.Need-mul-word-after
+mul-word-after c = search needs
 
 -- src/operands.rt:103:33
-element-copy-out-next-word : tie.Need-element-copy-out-next-word
-element-copy-out-next-word c = search needs
+element-copy-out-word-after : tie.Need-element-copy-out-word-after
+element-copy-out-word-after c = search needs
 
 -- src/operands.rt:103:16
-next-word-requires : tie.Need-next-word-requires
-next-word-requires c κs = search needs
+word-after-requires : tie.Need-word-after-requires
+word-after-requires c κs = search needs
 
 -- src/operands.rt:103:9
 mul-z : tie.Need-mul-z
@@ -58,7 +58,7 @@ element-write-z-2 c = search needs
 -- src/operands.rt:97:1
 returns : tie.Need-returns
 unfolding movedOf if
-returns c = rw (c .before .before .if1 .taken, c .next-word .ensures, c .before .before .before .before .index .ensures)
+returns c = rw (c .before .before .if1 .taken, c .word-after .ensures, c .before .before .before .before .index .ensures)
 
 -- src/operands.rt:97:1
 returns-2 : tie.Need-returns-2
@@ -74,9 +74,9 @@ act-spec =
     tie.close
     (tie.spec
     index-requires
-    mul-next-word
-    element-copy-out-next-word
-    next-word-requires
+    mul-word-after
+    element-copy-out-word-after
+    word-after-requires
     mul-z
     element-write-z
     mul-word-before
