@@ -1,0 +1,34 @@
+// Numbers of a table's entries: its layout, and the operations and kinds that the state check asks for [S The table].
+ghost use mathlib.Core.Path.{_≡_};
+
+// Words of the header and of an entry.
+pub const HEADER: usize = 8;
+
+pub const ENTRY: usize = 8;
+
+// The operations that are never arrived at, and JSR.
+pub const IFF: u32 = 104;
+
+pub const ESW: u32 = 105;
+
+pub const JSR: u32 = 109;
+
+pub const PPM: u32 = 110;
+
+pub const PRC: u32 = 111;
+
+pub const ENP: u32 = 113;
+
+pub const ERR: u32 = 114;
+
+// The kinds of operand that name a place and an EXP.
+pub const PLACE_KIND: u32 = 6;
+
+pub const EXTERNAL_KIND: u32 = 23;
+
+// A word as an index.
+pub fn index(x: u32) -> usize
+    ensures { λ r. ⌜ r ≡ x ⌝ }
+{
+    x as usize
+}
