@@ -6,12 +6,15 @@ ghost use Rattle.rules.specs.State.{waitOk};
 ghost use Rattle.rules.specs.Table.{calls};
 ghost use Rattle.states.specs.Bodies.{Entries};
 use super::entry::ENTRY;
-use super::entry::EXTERNAL_KIND;
+use super::entry::EXTERNALS;
 use super::entry::HEADER;
 use super::entry::JSR;
-use super::entry::PLACE_KIND;
+use super::entry::KIND;
 use super::entry::PRC;
+use super::entry::VALUE;
 use super::entry::index;
+use ops::format::EXTERNAL_KIND;
+use ops::format::PLACE_KIND;
 
 // 1 + the place of the PRC that the JSR at place j names, or 0 where there is no such JSR; j may lie past the table.
 pub fn callee_of(t: &[u32], n: usize, j: usize) -> usize
@@ -24,10 +27,10 @@ pub fn callee_of(t: &[u32], n: usize, j: usize) -> usize
     if t[HEADER + ENTRY * j] != JSR {
         return 0;
     }
-    if t[HEADER + ENTRY * j + 1] != PLACE_KIND {
+    if t[HEADER + ENTRY * j + KIND] != PLACE_KIND {
         return 0;
     }
-    let q = index(t[HEADER + ENTRY * j + 3]);
+    let q = index(t[HEADER + ENTRY * j + VALUE]);
     if n <= q {
         return 0;
     }
@@ -48,8 +51,8 @@ pub fn awaits(t: &[u32], n: usize, p: usize) -> bool
     if t[HEADER + ENTRY * p] != JSR {
         return false;
     }
-    if t[HEADER + ENTRY * p + 1] != EXTERNAL_KIND {
+    if t[HEADER + ENTRY * p + KIND] != EXTERNAL_KIND {
         return false;
     }
-    t[HEADER + ENTRY * p + 3] < t[4]
+    t[HEADER + ENTRY * p + VALUE] < t[EXTERNALS]
 }

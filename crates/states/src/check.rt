@@ -14,6 +14,7 @@ use super::body::bodies;
 use super::calls::awaits;
 use super::chain::chained;
 use super::chain::covered;
+use super::entry::CONSTANTS;
 use super::entry::ENP;
 use super::entry::ENTRY;
 use super::entry::ERR;
@@ -22,29 +23,26 @@ use super::entry::HEADER;
 use super::entry::IFF;
 use super::entry::PPM;
 use super::entry::PRC;
+use super::entry::SIZE;
+use super::entry::WORKINGS;
 use super::entry::index;
+use ops::machine::Machine;
 
-// Limits, until the machine's own type has them: words of memory, words kept free above the program's own, open links.
-const MIN_MEMORY: usize = 256;
-
-const MAX_MEMORY: usize = 8192;
-
-const STACK_WORDS: usize = 64;
-
-const MAX_LINKS: usize = 256;
+// Words for the body of each place of any table, and of the place past the last.
+pub const ROOM: usize = Machine::MAX_INSTRS + 1;
 
 // Memory of len words fits the table.
 pub fn memory_fits(t: &[u32], len: usize) -> bool
     requires { ⌜ 8 ≤ length (now t) ⌝ }
     ensures { λ r. ⌜ r ≡ memoryFits (now (t .entry)) len ⌝ }
 {
-    if len < MIN_MEMORY {
+    if len < Machine::MIN_MEMORY {
         return false;
     }
-    if MAX_MEMORY < len {
+    if Machine::MAX_MEMORY < len {
         return false;
     }
-    index(t[1]) + index(t[2]) + STACK_WORDS <= len
+    index(t[CONSTANTS]) + index(t[WORKINGS]) + Machine::STACK_WORDS <= len
 }
 
 // Place p of a lawful table of n entries can be arrived at; p may lie past the table.
@@ -96,14 +94,14 @@ pub fn state_ok_with(t: &[u32], body: &[u32], len: usize, s: State) -> bool
     requires { ⌜ Ok (tableOk (now t)) × Filled (now t) (size (now t)) (now body) ⌝ }
     ensures { λ r. ⌜ ((mem : List ℕ) → length mem ≡ len → r ≡ stateOk (now (t .entry)) (stateOf s mem)) ⌝ }
 {
-    let n = index(t[0]);
+    let n = index(t[SIZE]);
     let k = index(s.count);
     let p = index(s.pc);
     let links = s.links;
     if !memory_fits(t, len) {
         return false;
     }
-    if MAX_LINKS < k {
+    if Machine::MAX_LINKS < k {
         return false;
     }
     if !chained(t, n, body, &links, k) {
@@ -117,7 +115,7 @@ pub fn state_ok(t: &[u32], len: usize, s: State) -> bool
     requires { ⌜ Ok (tableOk (now t)) ⌝ }
     ensures { λ r. ⌜ ((mem : List ℕ) → length mem ≡ len → r ≡ stateOk (now (t .entry)) (stateOf s mem)) ⌝ }
 {
-    let mut body = [0u32; 1025];
-    bodies(t, index(t[0]), &mut body);
+    let mut body = [0u32; ROOM];
+    bodies(t, index(t[SIZE]), &mut body);
     state_ok_with(t, &body, len, s)
 }

@@ -6,6 +6,8 @@ pub mod chain;
 pub mod check;
 pub mod entry;
 
+use ops::machine::Machine;
+
 // The state beside its memory: the registers, IA's 32 bits, the overflow flag, the place, whether it waits at the JSR of an EXP,
 // how many links are open, and the links' places, oldest first. Links from count on are not looked at.
 pub struct State {
@@ -20,5 +22,5 @@ pub struct State {
     pub pc: u32,
     pub waiting: bool,
     pub count: u32,
-    pub links: [u32; 256],
+    pub links: [u32; Machine::MAX_LINKS],
 }
