@@ -20,7 +20,7 @@ use Rattle.rules.specs.Check.{among, registerOk, valueOk, operandOk, thirdOk, f
 use Rattle.rules.specs.Operand.{Operand, Form, formOf}
 use Rattle.rules.proofs.Facts.{known, in-table, rule-of}
 use Rattle.exec_core.specs.Views.{operandAt}
-use Rattle.exec_core.specs.Entry.{readable, Unused, Sound, Third, Entry, allTake, formatTakes, takes}
+use Rattle.exec_core.specs.Entry.{readable, Unused, Sound, Third, Entry, Ready, allTake, formatTakes, takes}
 
 -- a form that uses no register has register 0; one that uses an X has one of them
 none-used : (fm : Format) (r : ℕ) → Ok (eqb r 0) → fm .lastX ≤ WC → (r ≤ WC) × (r ≡ 0)
@@ -114,32 +114,29 @@ entry-inside t p ok l =
     let n = ok-le (size t) maxInstrs (and-l _ _ (and-l _ _ o)) in
     (omega arith, omega arith)
 
--- the operation n, whose row takes f, g and h, stands at p
-pub entry-of : (f g : ℕ → Bool) (h : Bool) (n : ℕ) (t : List ℕ) (b p : ℕ) (z : List ℕ) → Ok (takes f g h n rows) → Ok (tableOk t) → Ok (executable t p) → b ≡ entryAt p → t at b ≡ n → z at 0 ≡ 0 → Entry f g h t b z
-unfolding field executable
-entry-of f g h n t b p z a ok x e w y = subst (λ (i : ℕ). Entry f g h t i z) (sym e) at-p
-  where
-    k : Ok (known (classAt t p))
-    k = arrives-known (classAt t p) x
-
-    start : entryAt p + 0 ≡ b
-    start = omega arith
-
-    number : field t p 0 ≡ n
-    number = ap (λ (i : ℕ). t at i) start ∙ w
-
-    q : Given f g h t p
-    q = given-by f g h t p rows (and-l _ _ (rule-of t ok p k)) (subst (λ (i : ℕ). Ok (takes f g h i rows)) (sym number) a)
-
-    i : (entryAt p + 8 ≤ length t) × (entryAt p ≤ entryAt maxInstrs)
-    i = entry-inside t p ok (in-table t p k)
-
-    at-p : Entry f g h t (entryAt p) z
-    at-p = record {
-      inside = i .0;
-      near = i .1;
-      zero = y;
-      one = subst (λ (o : Operand). Sound f o) (operand-at t (entryAt p + 1) (entryAt p + 2) (entryAt p + 3) (omega arith) (omega arith)) (q .one);
-      two = subst (λ (o : Operand). Sound g o) (operand-at t (entryAt p + 4) (entryAt p + 5) (entryAt p + 6) (omega arith) (omega arith)) (q .two);
-      third = q .third;
-    }
+-- the operation n, whose row takes f, g and h, stands at b
+module _ (f g : ℕ → Bool) (h : Bool) (n : ℕ) {t : List ℕ} {b : ℕ} {z : List ℕ} where
+  pub entry-of : Ok (takes f g h n rows) → Ready t b z → t at b ≡ n → Entry f g h t b z
+  unfolding field executable
+  entry-of a y w = subst (λ (i : ℕ). Entry f g h t i z) (sym (y .starts)) at-p
+    where
+      p : ℕ
+      p = y .place
+      known-p : Ok (known (classAt t p))
+      known-p = arrives-known (classAt t p) (y .arrives)
+      start : entryAt p + 0 ≡ b
+      start = omega (arith, y .starts)
+      number : field t p 0 ≡ n
+      number = ap (λ (i : ℕ). t at i) start ∙ w
+      q : Given f g h t p
+      q = given-by f g h t p rows (and-l _ _ (rule-of t (y .checked) p known-p)) (subst (λ (i : ℕ). Ok (takes f g h i rows)) (sym number) a)
+      i : (entryAt p + 8 ≤ length t) × (entryAt p ≤ entryAt maxInstrs)
+      i = entry-inside t p (y .checked) (in-table t p known-p)
+      at-p : Entry f g h t (entryAt p) z
+      at-p = record {
+        inside = i .0;
+        near = i .1;
+        zero = y .zero;
+        one = subst (λ (o : Operand). Sound f o) (operand-at t (entryAt p + 1) (entryAt p + 2) (entryAt p + 3) (omega arith) (omega arith)) (q .one);
+        two = subst (λ (o : Operand). Sound g o) (operand-at t (entryAt p + 4) (entryAt p + 5) (entryAt p + 6) (omega arith) (omega arith)) (q .two);
+        third = q .third }

@@ -85,3 +85,7 @@ does t b k c z m o = answered (λ j. onward b) z m (effectAt t b k c z m o)
 
 abbrev pub branches : List ℕ → ℕ → ℕ → ℕ → List ℕ → List ℕ → Op → After
 branches t b k c z m o = answered (wayOf t b) z m (effectAt t b k c z m o)
+
+-- an operation whose code is lent no memory shows the same, whatever memory holds
+abbrev pub AnyMem : (List ℕ → After) → (List ℕ → After) → Type 0
+AnyMem a e = (m : List ℕ) → a m ≡ e m

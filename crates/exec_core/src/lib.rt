@@ -23,9 +23,7 @@ pub enum Fetched {
 }
 
 // The answers of an operation: below BASE the number of an ending, else BASE + the offset of the next entry.
-pub struct Answer {
-    pub number: usize,
-}
+pub struct Answer {}
 
 impl Answer {
     pub const BAD_ADDRESS: usize = 22;
@@ -51,10 +49,8 @@ impl Answer {
     pub const ON: usize = 72;
 }
 
-// The kinds of operands, and the bytes of a word.
-pub struct Kind {
-    pub number: u32,
-}
+// The kinds of operands that the code tells apart.
+pub struct Kind {}
 
 impl Kind {
     pub const ADDRESS: u32 = 3;
