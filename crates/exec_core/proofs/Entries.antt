@@ -114,16 +114,26 @@ entry-inside t p ok l =
     let n = ok-le (size t) maxInstrs (and-l _ _ (and-l _ _ o)) in
     (omega arith, omega arith)
 
+known-of : {t : List ℕ} {b : ℕ} {z : List ℕ} (y : Ready t b z) → Ok (known (classAt t (y .place)))
+unfolding executable
+known-of {t} y = arrives-known (classAt t (y .place)) (y .arrives)
+
+pub ready-inside : {t : List ℕ} {b : ℕ} {z : List ℕ} → Ready t b z → (b + 8 ≤ length t) × (b ≤ entryAt maxInstrs)
+ready-inside {t} {b} y =
+    let i = entry-inside t (y .place) (y .checked) (in-table t (y .place) (known-of y)) in
+    let e = y .starts in
+    (omega (arith, i .0), omega (arith, i .1))
+
 -- the operation n, whose row takes f, g and h, stands at b
 module _ (f g : ℕ → Bool) (h : Bool) (n : ℕ) {t : List ℕ} {b : ℕ} {z : List ℕ} where
   pub entry-of : Ok (takes f g h n rows) → Ready t b z → t at b ≡ n → Entry f g h t b z
-  unfolding field executable
+  unfolding field
   entry-of a y w = subst (λ (i : ℕ). Entry f g h t i z) (sym (y .starts)) at-p
     where
       p : ℕ
       p = y .place
       known-p : Ok (known (classAt t p))
-      known-p = arrives-known (classAt t p) (y .arrives)
+      known-p = known-of y
       start : entryAt p + 0 ≡ b
       start = omega (arith, y .starts)
       number : field t p 0 ≡ n
