@@ -1,5 +1,5 @@
 use native.Mathlib.Omega.{arith}
-use mathlib.Core.Path.{refl, sym, ap, _∙_}
+use mathlib.Core.Path.{sym, ap, _∙_}
 use Prim.Native.Nat.{_+_}
 use Rattle.rules.specs.Operand as Rules
 use Rattle.rules.specs.Operand.{given}
@@ -11,115 +11,81 @@ use Rattle.exec_core.specs.Views.{wayOf}
 use borrow.Author.Needs.{needs}
 use Rattle.exec_moves.proofs.aov.Statement.{statement}
 use Rattle.exec_moves.proofs.aov.Tie as tie
-use Rattle.exec_moves.proofs.aov.Reads as reads
-use Rattle.exec_moves.proofs.aov.Lts as lts
-use Rattle.exec_core.proofs.operands.act.Reads as act-reads
-use Rattle.exec_core.proofs.operands.fetch.Reads as fetch-reads
-use Rattle.exec_core.proofs.operands.index.Reads as index-reads
-use Rattle.exec_core.proofs.operands.operand.Reads as operand-reads
-use Rattle.exec_core.proofs.operands.store.Reads as store-reads
-use Rattle.exec_moves.proofs.overflow.Reads as overflow-reads
-use Rattle.words.proofs.add.Reads as add-reads
 
--- src/lib.rt:192:26
 add-operand : tie.Need-add-operand
-add-operand c = search needs
+add-operand c = omega arith
 
--- src/lib.rt:192:9
 operand-requires : tie.Need-operand-requires
-operand-requires c κs = search needs
+operand-requires c κs = omega arith
 
--- src/lib.rt:193:26
 add-operand-2 : tie.Need-add-operand-2
-add-operand-2 c = search needs
+add-operand-2 c = omega arith
 
--- src/lib.rt:193:9
 operand-requires-2 : tie.Need-operand-requires-2
-operand-requires-2 c κs = search needs
+operand-requires-2 c κs = omega arith
 
--- src/lib.rt:194:9
 fetch-requires : tie.Need-fetch-requires
 fetch-requires c κs = (rw (c .before .before .before .operand .ensures) (c .before .before .before .before .before .before .pre .one), c .before .before .before .before .before .before .pre .zero)
 
--- src/lib.rt:195:22
 enum-known-f : tie.Need-enum-known-f
 enum-known-f c = search needs
 
--- src/lib.rt:196:9
 enum-told : tie.Need-enum-told
 enum-told c = search needs
 
--- src/lib.rt:196:9
 same-length : tie.Need-same-length
 same-length c = search needs
 
--- src/lib.rt:196:9
 returns : tie.Need-returns
 unfolding combines given
 returns c = rw (← c .before .before .before .before .before .before .operand .ensures, ← c .before .before .fetch .ensures, c .enum-told .given .1)
 
--- src/lib.rt:198:9
 index-requires : tie.Need-index-requires
-index-requires c κs = search needs
+index-requires c κs = tt
 
--- src/lib.rt:199:15
 mul-old : tie.Need-mul-old
-mul-old c = search needs
+mul-old c = omega arith
 
--- src/lib.rt:199:15
 element-copy-out-old : tie.Need-element-copy-out-old
 element-copy-out-old c = omega (arith, ap Rules.Operand.reg (c .before .before .before .before .before .before .before .before .operand .ensures), c .before .before .before .before .before .before .before .before .before .before .before .pre .one .register)
 
--- src/lib.rt:200:5
 act-requires : tie.Need-act-requires
 act-requires c κs = rw (c .before .before .before .before .before .before .before .before .before .before .operand .ensures) (c .before .before .before .before .before .before .before .before .before .before .before .before .before .pre .one)
 
--- src/lib.rt:201:9
 fetch-requires-2 : tie.Need-fetch-requires-2
 fetch-requires-2 c κs = (rw (c .before .before .before .before .before .before .before .before .before .before .before .before .operand2 .ensures) (reads (c .before .before .before .before .before .before .before .before .before .before .before .before .before .before .before .before .pre .two)), kept-zero _ _ _ (c .before .before .act .ensures) (rw (c .before .before .before .before .before .before .before .before .before .before .before .before .before .operand .ensures) (c .before .before .before .before .before .before .before .before .before .before .before .before .before .before .before .before .pre .one)) (c .before .before .before .before .before .before .before .before .before .before .before .before .before .before .before .before .pre .zero))
 
--- src/lib.rt:202:22
 enum-known-g : tie.Need-enum-known-g
 enum-known-g c = search needs
 
--- src/lib.rt:203:9
 enum-told-2 : tie.Need-enum-told-2
 enum-told-2 c = search needs
 
--- src/lib.rt:203:9
 mul-z : tie.Need-mul-z
-mul-z c = search needs
+mul-z c = omega arith
 
--- src/lib.rt:203:9
 element-write-z : tie.Need-element-write-z
 element-write-z c = omega (arith, ap Rules.Operand.reg (c .before .before .before .before .before .before .before .before .before .before .before .before .before .before .before .before .operand .ensures), c .before .before .before .before .before .before .before .before .before .before .before .before .before .before .before .before .before .before .before .pre .one .register)
 
--- src/lib.rt:204:9
 same-length-2 : tie.Need-same-length-2
 same-length-2 c = search needs
 
--- src/lib.rt:204:9
 returns-2 : tie.Need-returns-2
 unfolding combines changes given
 returns-2 c = rw (undone _ _ _ (c .before .before .before .before .before .act .ensures) (c .before .before .before .before .before .before .before .before .index .ensures), ← c .before .before .before .before .before .before .before .before .before .before .before .before .before .before .before .before .operand .ensures, ← c .before .before .before .before .before .before .before .before .before .before .before .before .fetch .ensures, c .before .before .before .before .before .before .before .before .before .before .f .given .1, ← c .before .before .before .before .before .act .ensures, ← c .before .before .before .before .before .before .before .before .before .before .before .before .before .before .before .operand2 .ensures, ← c .before .before .fetch2 .ensures, c .enum-told2 .given .1)
 
--- src/lib.rt:206:9
 overflow-requires : tie.Need-overflow-requires
 overflow-requires c κs = search needs
 
--- src/lib.rt:207:25
 add-requires : tie.Need-add-requires
-add-requires c κs = search needs
+add-requires c κs = tt
 
--- src/lib.rt:207:5
 store-requires : tie.Need-store-requires
 store-requires c κs = (rw (c .before .before .before .before .before .before .before .before .before .before .before .before .before .before .before .before .before .before .before .before .operand2 .ensures) (c .before .before .before .before .before .before .before .before .before .before .before .before .before .before .before .before .before .before .before .before .before .before .before .before .pre .two), kept-zero _ _ _ (c .before .before .before .before .before .before .before .before .before .before .act .ensures) (rw (c .before .before .before .before .before .before .before .before .before .before .before .before .before .before .before .before .before .before .before .before .before .operand .ensures) (c .before .before .before .before .before .before .before .before .before .before .before .before .before .before .before .before .before .before .before .before .before .before .before .before .pre .one)) (c .before .before .before .before .before .before .before .before .before .before .before .before .before .before .before .before .before .before .before .before .before .before .before .before .pre .zero), omega (arith, ap Rules.Operand.reg (c .before .before .before .before .before .before .before .before .before .before .before .before .before .before .before .before .before .before .before .before .before .operand .ensures), c .before .before .before .before .before .before .before .before .before .before .before .before .before .before .before .before .before .before .before .before .before .before .before .before .pre .one .register))
 
--- src/lib.rt:188:1
 same-length-3 : tie.Need-same-length-3
 same-length-3 c = search needs
 
--- src/lib.rt:188:1
 returns-3 : tie.Need-returns-3
 unfolding combines changes given
 returns-3 c = c .before .before .store .ensures (wayOf (c .before .before .before .before .before .before .before .before .before .before .before .before .before .before .before .before .before .before .before .before .before .before .before .before .before .before .before .args .t .now) (c .before .before .before .before .before .before .before .before .before .before .before .before .before .before .before .before .before .before .before .before .before .before .before .before .before .before .before .args .b)) (fork 3 (ltb cfpM (c .before .before .before .before .before .before .before .before .g .given .0 .0 + c .before .before .before .before .before .before .before .before .before .before .before .before .before .before .before .before .before .before .f .given .0 .0))) (sym (c .before .before .before .before .before .before .overflow .ensures)) ∙ rw (undone _ _ _ (c .before .before .before .before .before .before .before .before .before .before .before .before .before .act .ensures) (c .before .before .before .before .before .before .before .before .before .before .before .before .before .before .before .before .index .ensures), c .before .before .before .add .ensures, ← c .before .before .before .before .before .before .before .before .before .before .before .before .before .before .before .before .before .before .before .before .before .before .before .before .operand .ensures, ← c .before .before .before .before .before .before .before .before .before .before .before .before .before .before .before .before .before .before .before .before .fetch .ensures, c .before .before .before .before .before .before .before .before .before .before .before .before .before .before .before .before .before .before .f .given .1, ← c .before .before .before .before .before .before .before .before .before .before .before .before .before .act .ensures, ← c .before .before .before .before .before .before .before .before .before .before .before .before .before .before .before .before .before .before .before .before .before .before .before .operand2 .ensures, ← c .before .before .before .before .before .before .before .before .before .before .fetch2 .ensures, c .before .before .before .before .before .before .before .before .g .given .1)

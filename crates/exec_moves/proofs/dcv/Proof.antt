@@ -1,66 +1,47 @@
 use native.Mathlib.Omega.{arith}
-use mathlib.Core.Path.{refl, sym, ap, _∙_}
+use mathlib.Core.Path.{refl, _∙_}
 use Prim.Native.Nat.{_+_}
-use Rattle.rules.specs.Operand as Rules
 use Rattle.rules.specs.Operand.{given}
 use Rattle.rules.specs.Exec.{changes}
 use Rattle.exec_core.proofs.Laws.{zero-kept, reads}
 use borrow.Author.Needs.{needs}
 use Rattle.exec_moves.proofs.dcv.Statement.{statement}
 use Rattle.exec_moves.proofs.dcv.Tie as tie
-use Rattle.exec_moves.proofs.dcv.Reads as reads
-use Rattle.exec_moves.proofs.dcv.Lts as lts
-use Rattle.exec_core.proofs.operands.fetch.Reads as fetch-reads
-use Rattle.exec_core.proofs.operands.operand.Reads as operand-reads
-use Rattle.exec_core.proofs.operands.store.Reads as store-reads
-use Rattle.words.proofs.sub.Reads as sub-reads
 
--- src/lib.rt:65:26
 add-operand : tie.Need-add-operand
-add-operand c = search needs
+add-operand c = omega arith
 
--- src/lib.rt:65:9
 operand-requires : tie.Need-operand-requires
-operand-requires c κs = search needs
+operand-requires c κs = omega arith
 
--- src/lib.rt:66:9
 fetch-requires : tie.Need-fetch-requires
 fetch-requires c κs = (rw (c .before .before .operand .ensures) (reads (c .before .before .before .before .before .pre .one)), c .before .before .before .before .before .pre .zero)
 
--- src/lib.rt:67:22
 enum-known-f : tie.Need-enum-known-f
 enum-known-f c = search needs
 
--- src/lib.rt:68:9
 enum-told : tie.Need-enum-told
 enum-told c = search needs
 
--- src/lib.rt:68:9
 same-length : tie.Need-same-length
 same-length c = search needs
 
--- src/lib.rt:68:9
 returns : tie.Need-returns
 unfolding changes given
 returns c = rw (← c .before .before .before .before .before .operand .ensures, ← c .before .before .fetch .ensures, c .enum-told .given .1)
 
--- src/lib.rt:70:25
 sub-requires : tie.Need-sub-requires
-sub-requires c κs = search needs
+sub-requires c κs = tt
 
--- src/lib.rt:70:49
 add-store : tie.Need-add-store
-add-store c = search needs
+add-store c = omega arith
 
--- src/lib.rt:70:5
 store-requires : tie.Need-store-requires
 store-requires c κs = (rw (c .before .before .before .before .before .before .before .before .before .operand .ensures) (c .before .before .before .before .before .before .before .before .before .before .before .before .pre .one), c .before .before .before .before .before .before .before .before .before .before .before .before .pre .zero, omega arith)
 
--- src/lib.rt:61:1
 same-length-2 : tie.Need-same-length-2
 same-length-2 c = search needs
 
--- src/lib.rt:61:1
 returns-2 : tie.Need-returns-2
 unfolding changes given
 returns-2 c = c .before .before .store .ensures (λ j. c .before .before .before .before .before .before .before .before .before .before .before .before .before .before .before .args .b + 72) 0 refl ∙ rw (zero-kept _ (c .before .before .before .before .before .before .before .before .before .before .before .before .before .before .before .pre .zero), c .before .before .before .sub .ensures, ← c .before .before .before .before .before .before .before .before .before .before .before .before .operand .ensures, ← c .before .before .before .before .before .before .before .before .before .fetch .ensures, c .before .before .before .before .before .before .before .f .given .1)

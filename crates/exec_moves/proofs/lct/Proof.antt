@@ -1,82 +1,59 @@
 use native.Mathlib.Omega.{arith}
-use mathlib.Core.Path.{refl, sym, ap, _∙_}
-use Prim.Native.Nat.{_+_}
+use mathlib.Core.Path.{ap}
 use Rattle.rules.specs.Operand as Rules
 use Rattle.rules.specs.Operand.{given}
 use Rattle.rules.specs.Exec.{copies}
-use Rattle.exec_core.proofs.Laws.{moved-zero, reads, store-register}
+use Rattle.exec_core.proofs.Laws.{store-register}
 use borrow.Author.Needs.{needs}
 use Rattle.exec_moves.proofs.lct.Statement.{statement}
 use Rattle.exec_moves.proofs.lct.Tie as tie
-use Rattle.exec_moves.proofs.lct.Reads as reads
-use Rattle.exec_moves.proofs.lct.Lts as lts
-use Rattle.exec_core.proofs.operands.act.Reads as act-reads
-use Rattle.exec_core.proofs.operands.fetch.Reads as fetch-reads
-use Rattle.exec_core.proofs.operands.index.Reads as index-reads
-use Rattle.exec_core.proofs.operands.operand.Reads as operand-reads
 
--- src/lib.rt:175:26
 add-operand : tie.Need-add-operand
-add-operand c = search needs
+add-operand c = omega arith
 
--- src/lib.rt:175:9
 operand-requires : tie.Need-operand-requires
-operand-requires c κs = search needs
+operand-requires c κs = omega arith
 
--- src/lib.rt:176:26
 add-operand-2 : tie.Need-add-operand-2
-add-operand-2 c = search needs
+add-operand-2 c = omega arith
 
--- src/lib.rt:176:9
 operand-requires-2 : tie.Need-operand-requires-2
-operand-requires-2 c κs = search needs
+operand-requires-2 c κs = omega arith
 
--- src/lib.rt:177:9
 fetch-requires : tie.Need-fetch-requires
 fetch-requires c κs = (rw (c .before .before .operand2 .ensures) (c .before .before .before .before .before .before .pre .two), c .before .before .before .before .before .before .pre .zero)
 
--- src/lib.rt:178:22
 enum-known-f : tie.Need-enum-known-f
 enum-known-f c = search needs
 
--- src/lib.rt:179:9
 enum-told : tie.Need-enum-told
 enum-told c = search needs
 
--- src/lib.rt:179:9
 same-length : tie.Need-same-length
 same-length c = search needs
 
--- src/lib.rt:179:9
 returns : tie.Need-returns
 unfolding copies given
 returns c = rw (← c .before .before .before .before .before .operand2 .ensures, ← c .before .before .fetch .ensures, c .enum-told .given .1)
 
--- src/lib.rt:181:5
 act-requires : tie.Need-act-requires
 act-requires c κs = rw (c .before .before .before .before .before .before .before .operand2 .ensures) (c .before .before .before .before .before .before .before .before .before .before .before .pre .two)
 
--- src/lib.rt:182:9
 index-requires : tie.Need-index-requires
-index-requires c κs = search needs
+index-requires c κs = tt
 
--- src/lib.rt:183:5
 mul-z : tie.Need-mul-z
-mul-z c = search needs
+mul-z c = omega arith
 
--- src/lib.rt:183:5
 element-write-z : tie.Need-element-write-z
 element-write-z c = omega (arith, ap Rules.Operand.reg (c .before .before .before .before .before .before .before .before .before .before .operand .ensures), c .before .before .before .before .before .before .before .before .before .before .before .before .before .pre .one .register)
 
--- src/lib.rt:184:5
 add-result : tie.Need-add-result
-add-result c = search needs
+add-result c = omega arith
 
--- src/lib.rt:171:1
 same-length-2 : tie.Need-same-length-2
 same-length-2 c = search needs
 
--- src/lib.rt:171:1
 returns-2 : tie.Need-returns-2
 unfolding copies given
 returns-2 c = rw (← c .before .before .before .before .before .before .before .before .before .operand2 .ensures, ← c .before .before .before .before .before .before .fetch .ensures, c .before .before .before .before .f .given .1, ← c .before .act .ensures, store-register _ _ _ _ _ 0 (c .before .before .before .before .before .before .before .before .before .before .before .before .before .pre .one), c .index .ensures, ap Rules.Operand.reg (c .before .before .before .before .before .before .before .before .before .before .operand .ensures))

@@ -1,5 +1,5 @@
 use native.Mathlib.Omega.{arith}
-use mathlib.Core.Path.{refl, sym, ap, _∙_}
+use mathlib.Core.Path.{refl, ap, _∙_}
 use Prim.Native.Nat.{_+_}
 use Rattle.rules.specs.Operand as Rules
 use Rattle.rules.specs.Operand.{given}
@@ -8,114 +8,81 @@ use Rattle.exec_core.proofs.Laws.{undone, kept-zero, reads}
 use borrow.Author.Needs.{needs}
 use Rattle.exec_moves.proofs.sub.Statement.{statement}
 use Rattle.exec_moves.proofs.sub.Tie as tie
-use Rattle.exec_moves.proofs.sub.Reads as reads
-use Rattle.exec_moves.proofs.sub.Lts as lts
-use Rattle.exec_core.proofs.operands.act.Reads as act-reads
-use Rattle.exec_core.proofs.operands.fetch.Reads as fetch-reads
-use Rattle.exec_core.proofs.operands.index.Reads as index-reads
-use Rattle.exec_core.proofs.operands.operand.Reads as operand-reads
-use Rattle.exec_core.proofs.operands.store.Reads as store-reads
-use Rattle.words.proofs.sub.Reads as sub-reads
 
--- src/lib.rt:127:26
 add-operand : tie.Need-add-operand
-add-operand c = search needs
+add-operand c = omega arith
 
--- src/lib.rt:127:9
 operand-requires : tie.Need-operand-requires
-operand-requires c κs = search needs
+operand-requires c κs = omega arith
 
--- src/lib.rt:128:26
 add-operand-2 : tie.Need-add-operand-2
-add-operand-2 c = search needs
+add-operand-2 c = omega arith
 
--- src/lib.rt:128:9
 operand-requires-2 : tie.Need-operand-requires-2
-operand-requires-2 c κs = search needs
+operand-requires-2 c κs = omega arith
 
--- src/lib.rt:129:9
 fetch-requires : tie.Need-fetch-requires
 fetch-requires c κs = (rw (c .before .before .before .operand .ensures) (c .before .before .before .before .before .before .pre .one), c .before .before .before .before .before .before .pre .zero)
 
--- src/lib.rt:130:22
 enum-known-f : tie.Need-enum-known-f
 enum-known-f c = search needs
 
--- src/lib.rt:131:9
 enum-told : tie.Need-enum-told
 enum-told c = search needs
 
--- src/lib.rt:131:9
 same-length : tie.Need-same-length
 same-length c = search needs
 
--- src/lib.rt:131:9
 returns : tie.Need-returns
 unfolding combines given
 returns c = rw (← c .before .before .before .before .before .before .operand .ensures, ← c .before .before .fetch .ensures, c .enum-told .given .1)
 
--- src/lib.rt:133:9
 index-requires : tie.Need-index-requires
-index-requires c κs = search needs
+index-requires c κs = tt
 
--- src/lib.rt:134:15
 mul-old : tie.Need-mul-old
-mul-old c = search needs
+mul-old c = omega arith
 
--- src/lib.rt:134:15
 element-copy-out-old : tie.Need-element-copy-out-old
 element-copy-out-old c = omega (arith, ap Rules.Operand.reg (c .before .before .before .before .before .before .before .before .operand .ensures), c .before .before .before .before .before .before .before .before .before .before .before .pre .one .register)
 
--- src/lib.rt:135:5
 act-requires : tie.Need-act-requires
 act-requires c κs = rw (c .before .before .before .before .before .before .before .before .before .before .operand .ensures) (c .before .before .before .before .before .before .before .before .before .before .before .before .before .pre .one)
 
--- src/lib.rt:136:9
 fetch-requires-2 : tie.Need-fetch-requires-2
 fetch-requires-2 c κs = (rw (c .before .before .before .before .before .before .before .before .before .before .before .before .operand2 .ensures) (reads (c .before .before .before .before .before .before .before .before .before .before .before .before .before .before .before .before .pre .two)), kept-zero _ _ _ (c .before .before .act .ensures) (rw (c .before .before .before .before .before .before .before .before .before .before .before .before .before .operand .ensures) (c .before .before .before .before .before .before .before .before .before .before .before .before .before .before .before .before .pre .one)) (c .before .before .before .before .before .before .before .before .before .before .before .before .before .before .before .before .pre .zero))
 
--- src/lib.rt:137:22
 enum-known-g : tie.Need-enum-known-g
 enum-known-g c = search needs
 
--- src/lib.rt:138:9
 enum-told-2 : tie.Need-enum-told-2
 enum-told-2 c = search needs
 
--- src/lib.rt:138:9
 mul-z : tie.Need-mul-z
-mul-z c = search needs
+mul-z c = omega arith
 
--- src/lib.rt:138:9
 element-write-z : tie.Need-element-write-z
 element-write-z c = omega (arith, ap Rules.Operand.reg (c .before .before .before .before .before .before .before .before .before .before .before .before .before .before .before .before .operand .ensures), c .before .before .before .before .before .before .before .before .before .before .before .before .before .before .before .before .before .before .before .pre .one .register)
 
--- src/lib.rt:139:9
 same-length-2 : tie.Need-same-length-2
 same-length-2 c = search needs
 
--- src/lib.rt:139:9
 returns-2 : tie.Need-returns-2
 unfolding combines changes given
 returns-2 c = rw (undone _ _ _ (c .before .before .before .before .before .act .ensures) (c .before .before .before .before .before .before .before .before .index .ensures), ← c .before .before .before .before .before .before .before .before .before .before .before .before .before .before .before .before .operand .ensures, ← c .before .before .before .before .before .before .before .before .before .before .before .before .fetch .ensures, c .before .before .before .before .before .before .before .before .before .before .f .given .1, ← c .before .before .before .before .before .act .ensures, ← c .before .before .before .before .before .before .before .before .before .before .before .before .before .before .before .operand2 .ensures, ← c .before .before .fetch2 .ensures, c .enum-told2 .given .1)
 
--- src/lib.rt:141:25
 sub-requires : tie.Need-sub-requires
-sub-requires c κs = search needs
+sub-requires c κs = tt
 
--- src/lib.rt:141:51
 add-store : tie.Need-add-store
-add-store c = search needs
+add-store c = omega arith
 
--- src/lib.rt:141:5
 store-requires : tie.Need-store-requires
 store-requires c κs = (rw (c .before .before .before .before .before .before .before .before .before .before .before .before .before .before .before .before .before .before .before .operand2 .ensures) (c .before .before .before .before .before .before .before .before .before .before .before .before .before .before .before .before .before .before .before .before .before .before .before .pre .two), kept-zero _ _ _ (c .before .before .before .before .before .before .before .before .before .act .ensures) (rw (c .before .before .before .before .before .before .before .before .before .before .before .before .before .before .before .before .before .before .before .before .operand .ensures) (c .before .before .before .before .before .before .before .before .before .before .before .before .before .before .before .before .before .before .before .before .before .before .before .pre .one)) (c .before .before .before .before .before .before .before .before .before .before .before .before .before .before .before .before .before .before .before .before .before .before .before .pre .zero), omega (arith, ap Rules.Operand.reg (c .before .before .before .before .before .before .before .before .before .before .before .before .before .before .before .before .before .before .before .before .operand .ensures), c .before .before .before .before .before .before .before .before .before .before .before .before .before .before .before .before .before .before .before .before .before .before .before .pre .one .register))
 
--- src/lib.rt:123:1
 same-length-3 : tie.Need-same-length-3
 same-length-3 c = search needs
 
--- src/lib.rt:123:1
 returns-3 : tie.Need-returns-3
 unfolding combines changes given
 returns-3 c = c .before .before .store .ensures (λ j. c .before .before .before .before .before .before .before .before .before .before .before .before .before .before .before .before .before .before .before .before .before .before .before .before .before .before .args .b + 72) 0 refl ∙ rw (undone _ _ _ (c .before .before .before .before .before .before .before .before .before .before .before .before .act .ensures) (c .before .before .before .before .before .before .before .before .before .before .before .before .before .before .before .index .ensures), c .before .before .before .sub .ensures, ← c .before .before .before .before .before .before .before .before .before .before .before .before .before .before .before .before .before .before .before .before .before .before .before .operand .ensures, ← c .before .before .before .before .before .before .before .before .before .before .before .before .before .before .before .before .before .before .before .fetch .ensures, c .before .before .before .before .before .before .before .before .before .before .before .before .before .before .before .before .before .f .given .1, ← c .before .before .before .before .before .before .before .before .before .before .before .before .act .ensures, ← c .before .before .before .before .before .before .before .before .before .before .before .before .before .before .before .before .before .before .before .before .before .before .operand2 .ensures, ← c .before .before .before .before .before .before .before .before .before .fetch2 .ensures, c .before .before .before .before .before .before .before .g .given .1)

@@ -5,32 +5,22 @@ use Rattle.exec_core.proofs.Laws.{zero-kept}
 use borrow.Author.Needs.{needs}
 use Rattle.exec_moves.proofs.zer.Statement.{statement}
 use Rattle.exec_moves.proofs.zer.Tie as tie
-use Rattle.exec_moves.proofs.zer.Reads as reads
-use Rattle.exec_moves.proofs.zer.Lts as lts
-use Rattle.exec_core.proofs.operands.operand.Reads as operand-reads
-use Rattle.exec_core.proofs.operands.store.Reads as store-reads
 
--- src/lib.rt:78:26
 add-operand : tie.Need-add-operand
-add-operand c = search needs
+add-operand c = omega arith
 
--- src/lib.rt:78:9
 operand-requires : tie.Need-operand-requires
-operand-requires c κs = search needs
+operand-requires c κs = omega arith
 
--- src/lib.rt:79:34
 add-store : tie.Need-add-store
-add-store c = search needs
+add-store c = omega arith
 
--- src/lib.rt:79:5
 store-requires : tie.Need-store-requires
 store-requires c κs = (rw (c .before .before .operand .ensures) (c .before .before .before .before .before .pre .one), c .before .before .before .before .before .pre .zero, omega arith)
 
--- src/lib.rt:74:1
 same-length : tie.Need-same-length
 same-length c = search needs
 
--- src/lib.rt:74:1
 returns : tie.Need-returns
 returns c = c .before .before .store .ensures (λ j. c .before .before .before .before .before .before .before .before .args .b + 72) 0 refl ∙ rw (zero-kept _ (c .before .before .before .before .before .before .before .before .pre .zero), c .before .before .before .before .before .operand .ensures)
 
