@@ -8,7 +8,7 @@ use native.Mathlib.Omega.{arith}
 use native.Mathlib.Nat.{mod-eq-of-lt}
 use lib.Dec.{eqb, ltb}
 use lib.ListN.{length, set}
-use lib.Seq.{set-set, set-getD, getD-set-other}
+use lib.Seq.{set-getD, getD-set-other}
 use borrow.Author.Tests.{ltb-true, eqb-true, ne-eqb}
 use Rattle.base.specs.Test.{Ok, if, _and_, _or_}
 use Rattle.base.specs.Lists.{_at_}
@@ -21,32 +21,7 @@ use Rattle.rules.specs.Operand.{Operand, Form, value, register, direct, indirec
 use Rattle.exec_core.specs.Entry.{readable, writable, inRegister, pointing, isPlace, heldHere, Unused, Sound}
 use Rattle.exec_core.specs.Views.{towardOr}
 
--- a word that an address names lies in memory
-pub word-in : (k a i : ℕ) → wordAt k a ≡ cell i → i < k
-unfolding wordAt if
-word-in k a i e = go (eqb (a % 4) 0) (ltb (a / 4) k) refl e
-  where
-    go : (p q : Bool) → ltb (a / 4) k ≡ q → if p (if q (cell (a / 4)) nothing) nothing ≡ cell i → i < k
-    go true true h e = let z : a / 4 ≡ i = cc in omega (arith, ltb-true (a / 4) k h)
-    go true false h e = let z : _≡_ {A = ℕ} 0 1 = cc in omega arith
-    go false q h e = let z : _≡_ {A = ℕ} 0 1 = cc in omega arith
-
--- what an operand did to its register is undone by the old value
-undo-by : (f : Form) (n : ℕ) (z : List ℕ) (o : Operand) → set (movedBy f n z o) (o .reg) (z at o .reg) ≡ z
-undo-by value n z o = set-getD z (o .reg) 0
-undo-by register n z o = set-getD z (o .reg) 0
-undo-by direct n z o = set-getD z (o .reg) 0
-undo-by indirect n z o = set-getD z (o .reg) 0
-undo-by rising n z o = set-set z (o .reg) _ (z at o .reg) ∙ set-getD z (o .reg) 0
-undo-by falling n z o = set-set z (o .reg) _ (z at o .reg) ∙ set-getD z (o .reg) 0
-undo-by indexed n z o = set-getD z (o .reg) 0
-
-pub undo : (n : ℕ) (z : List ℕ) (o : Operand) → set (movedOf n z o) (o .reg) (z at o .reg) ≡ z
-unfolding movedOf
-undo n z o = undo-by (formOf (o .kind)) n z o
-
-pub undone : (n : ℕ) (z : List ℕ) (o : Operand) {z1 : List ℕ} {x : ℕ} → z1 ≡ movedOf n z o → x ≡ o .reg → set z1 x (z at x) ≡ z
-undone n z o {z1} {x} e h = ap (λ (l : List ℕ). set l x (z at x)) e ∙ ap (λ (y : ℕ). set (movedOf n z o) y (z at y)) h ∙ undo n z o
+pub use Rattle.rules.proofs.Operands.{word-in, undo, undone}
 
 -- where nothing has moved, word 0 is set to what it holds
 pub zero-kept : (z : List ℕ) → z at 0 ≡ 0 → set z 0 0 ≡ z

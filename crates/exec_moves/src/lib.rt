@@ -21,11 +21,10 @@ use exec_core::operands::operand;
 use exec_core::operands::store;
 use exec_core::operands::sum;
 use exec_core::operands::to_third;
+use ops::machine::Machine;
 
-// The largest value, and the bytes of a word.
-const CFP_M: u64 = 2147483647;
-
-const CFP_B: u32 = 4;
+// The largest value of a sum that does not overflow.
+const CFP_M: u64 = Machine::CFP_M as u64;
 
 // [M 1.1] MOV: operand two := operand one
 pub fn mov(t: &[u32], b: usize, m: &mut [u32], z: &mut [u32; 16], c: usize) -> usize
@@ -151,7 +150,7 @@ pub fn ica(t: &[u32], b: usize, m: &mut [u32], z: &mut [u32; 16], c: usize) -> u
     let Fetched::Got(w) = f else {
         return Answer::BAD_ADDRESS;
     };
-    store(m, z, c, one, words::add(w, CFP_B), 0, 0, b + Answer::ON)
+    store(m, z, c, one, words::add(w, Machine::CFP_B), 0, 0, b + Answer::ON)
 }
 
 // [M 2.4] DCA: operand one := operand one - the bytes of a word, wrapped
@@ -164,7 +163,7 @@ pub fn dca(t: &[u32], b: usize, m: &mut [u32], z: &mut [u32; 16], c: usize) -> u
     let Fetched::Got(w) = f else {
         return Answer::BAD_ADDRESS;
     };
-    store(m, z, c, one, words::sub(w, CFP_B), 0, 0, b + Answer::ON)
+    store(m, z, c, one, words::sub(w, Machine::CFP_B), 0, 0, b + Answer::ON)
 }
 
 // [M 2.15] LCT: register one := operand two
