@@ -150,7 +150,16 @@ pub fn ica(t: &[u32], b: usize, m: &mut [u32], z: &mut [u32; 16], c: usize) -> u
     let Fetched::Got(w) = f else {
         return Answer::BAD_ADDRESS;
     };
-    store(m, z, c, one, words::add(w, Machine::CFP_B), 0, 0, b + Answer::ON)
+    store(
+        m,
+        z,
+        c,
+        one,
+        words::add(w, Machine::CFP_B),
+        0,
+        0,
+        b + Answer::ON,
+    )
 }
 
 // [M 2.4] DCA: operand one := operand one - the bytes of a word, wrapped
@@ -163,7 +172,16 @@ pub fn dca(t: &[u32], b: usize, m: &mut [u32], z: &mut [u32; 16], c: usize) -> u
     let Fetched::Got(w) = f else {
         return Answer::BAD_ADDRESS;
     };
-    store(m, z, c, one, words::sub(w, Machine::CFP_B), 0, 0, b + Answer::ON)
+    store(
+        m,
+        z,
+        c,
+        one,
+        words::sub(w, Machine::CFP_B),
+        0,
+        0,
+        b + Answer::ON,
+    )
 }
 
 // [M 2.15] LCT: register one := operand two
