@@ -9,6 +9,10 @@ use super::entry::ENP;
 use super::entry::ENTRY;
 use super::entry::HEADER;
 use super::entry::PRC;
+use ops::machine::Machine;
+
+// Words for the body of each place of any table, and of the place past the last.
+pub const ROOM: usize = Machine::MAX_INSTRS + 1;
 
 // The body that is open after the operation op at place p: 0 outside procedures, else 1 + the place of the PRC.
 fn after_entry(op: u32, p: u32, b: u32) -> u32

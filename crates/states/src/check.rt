@@ -10,6 +10,7 @@ ghost use Rattle.rules.specs.Table.{executable, size};
 ghost use Rattle.states.specs.Bodies.{Entries, Filled};
 ghost use Rattle.states.specs.Views.{placedOk, stateOf};
 use super::State;
+use super::body::ROOM;
 use super::body::bodies;
 use super::calls::awaits;
 use super::chain::chained;
@@ -27,9 +28,6 @@ use super::entry::SIZE;
 use super::entry::WORKINGS;
 use super::entry::index;
 use ops::machine::Machine;
-
-// Words for the body of each place of any table, and of the place past the last.
-pub const ROOM: usize = Machine::MAX_INSTRS + 1;
 
 // Memory of len words fits the table.
 pub fn memory_fits(t: &[u32], len: usize) -> bool
