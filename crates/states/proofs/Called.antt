@@ -18,8 +18,8 @@ use Rattle.rules.specs.State.{isExternal, waitOk}
 use Rattle.rules.specs.Table.{Callee, callee, calls, classAt, external, externals, field, namesExternal, namesProcedure, procedure, procedureOf, size, unnamed, value}
 use Rattle.rules.proofs.Exits.{calls-jsr}
 use Rattle.rules.proofs.Facts.{in-table}
-use Rattle.states.proofs.Numbers.{jsr-class, jsr-number, marker-class, marker-number}
-use Rattle.states.proofs.Places.{class-of, class-past}
+use Rattle.bodies.proofs.Numbers.{jsr-class, jsr-number, marker-class, marker-number}
+use Rattle.bodies.proofs.Places.{class-of, class-past}
 
 pub not-ok : (b : Bool) → (Ok b → ⊥) → b ≡ false
 not-ok true h = absurd (h passed)

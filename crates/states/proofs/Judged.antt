@@ -14,7 +14,7 @@ use Rattle.rules.specs.Table.{bodyAt, constants, executable, size, workings}
 use Rattle.states.specs.Views.{linksOf, placedOk, stateOf}
 use Rattle.states.specs.declared.State.{State}
 use Rattle.states.proofs.Front.{links-front, links-length}
-use Rattle.states.proofs.Places.{arrives-inside}
+use Rattle.bodies.proofs.Places.{arrives-inside}
 
 neither : (a r : Bool) → a and false and r ≡ false
 unfolding _and_

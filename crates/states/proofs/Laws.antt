@@ -25,8 +25,8 @@ use Rattle.states.specs.declared.State.{State}
 use Rattle.states.proofs.Called.{calls-inside}
 use Rattle.states.proofs.Chained.{top-link}
 use Rattle.states.proofs.Front.{links-front, links-length}
-use Rattle.states.proofs.Numbers.{jsr-number}
-use Rattle.states.proofs.Places.{arrives-inside, class-of}
+use Rattle.bodies.proofs.Numbers.{jsr-number}
+use Rattle.bodies.proofs.Places.{arrives-inside, class-of}
 
 -- the check, taken apart and put together
 module _ (t mem : List ℕ) (s : State) (full : length (s .links) ≡ 256) where

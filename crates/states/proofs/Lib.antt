@@ -1,5 +1,4 @@
-pub mod Numbers
-pub mod Places
+pub mod Admits
 pub mod Called
 pub mod Chained
 pub mod Front

@@ -1,3 +1,3 @@
-pub mod Bodies
+pub mod Admit
 pub mod Checked
 pub mod Views

@@ -4,9 +4,9 @@ ghost use Prim.Native.Nat.{_≤_, _<_};
 ghost use lib.ListN.{length, take};
 ghost use Rattle.rules.specs.State.{chain, held, opened, topLink};
 ghost use Rattle.rules.specs.Table.{bodyAt};
-ghost use Rattle.states.specs.Bodies.{Entries, Filled};
+ghost use Rattle.bodies.specs.Bodies.{Entries, Filled};
 use super::calls::callee_of;
-use super::entry::index;
+use bodies::entry::index;
 
 // Each of the k oldest links is a JSR to a procedure, and has a link to its own body's procedure just beneath.
 pub fn chained(t: &[u32], n: usize, body: &[u32], links: &[u32], k: usize) -> bool

@@ -1,10 +1,9 @@
 // The state of the machine as the host holds it, and its check [S Numbers the host sees].
 // The check asks the table once for the body of each place, then each link and the place in turn.
-pub mod body;
+pub mod admit;
 pub mod calls;
 pub mod chain;
 pub mod check;
-pub mod entry;
 
 use ops::machine::Machine;
 

@@ -6,7 +6,7 @@ use Rattle.states.proofs.calls.callee_of.Statement.{statement}
 use Rattle.states.proofs.calls.callee_of.Tie as tie
 use Rattle.states.proofs.calls.callee_of.Reads as reads
 use Rattle.states.proofs.calls.callee_of.Lts as lts
-use Rattle.states.proofs.entry.index.Reads as index-reads
+use Rattle.bodies.proofs.entry.index.Reads as index-reads
 
 returns : tie.Need-returns
 returns c =

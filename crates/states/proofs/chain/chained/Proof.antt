@@ -14,7 +14,7 @@ use Rattle.states.proofs.chain.chained.Tie as tie
 use Rattle.states.proofs.chain.chained.Reads as reads
 use Rattle.states.proofs.chain.chained.Lts as lts
 use Rattle.states.proofs.calls.callee_of.Reads as callee-of-reads
-use Rattle.states.proofs.entry.index.Reads as index-reads
+use Rattle.bodies.proofs.entry.index.Reads as index-reads
 
 abbrev Inv-loop : tie.InvT-loop
 Inv-loop t n body links k beneath₀ i₀ beneath i = (i ≤ k) ×

@@ -10,7 +10,7 @@ use Rattle.states.proofs.chain.covered.Tie as tie
 use Rattle.states.proofs.chain.covered.Reads as reads
 use Rattle.states.proofs.chain.covered.Lts as lts
 use Rattle.states.proofs.calls.callee_of.Reads as callee-of-reads
-use Rattle.states.proofs.entry.index.Reads as index-reads
+use Rattle.bodies.proofs.entry.index.Reads as index-reads
 
 mul-index : tie.Need-mul-index
 mul-index c = search needs

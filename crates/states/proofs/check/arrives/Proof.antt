@@ -1,5 +1,5 @@
 -- `states::check::arrives` meets its contract, by the number of the operation. Assumes nothing.
-use Rattle.states.proofs.Places.{arrives-marker, arrives-other, arrives-past, Unmarked, unmarked}
+use Rattle.bodies.proofs.Places.{arrives-marker, arrives-other, arrives-past, Unmarked, unmarked}
 use Rattle.ops.specs.Class.{ENP, ERR, ESW, IFF, PPM, PRC}
 use native.Mathlib.Omega.{arith}
 use Prim.Native.Nat.{ℕ, _+_, _*_}

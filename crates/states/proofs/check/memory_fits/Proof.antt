@@ -7,7 +7,7 @@ use Rattle.states.proofs.check.memory_fits.Statement.{statement}
 use Rattle.states.proofs.check.memory_fits.Tie as tie
 use Rattle.states.proofs.check.memory_fits.Reads as reads
 use Rattle.states.proofs.check.memory_fits.Lts as lts
-use Rattle.states.proofs.entry.index.Reads as index-reads
+use Rattle.bodies.proofs.entry.index.Reads as index-reads
 
 returns : tie.Need-returns
 returns c =

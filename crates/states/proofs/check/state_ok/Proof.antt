@@ -1,7 +1,7 @@
 -- `states::check::state_ok` meets its contract. Assumes nothing.
 use Prim.Native.Nat.{ℕ, _<_, _≤_}
 use Rattle.rules.specs.Table.{size}
-use Rattle.states.proofs.Places.{entries-of}
+use Rattle.bodies.proofs.Places.{entries-of}
 use lib.ListN.{length}
 use mathlib.Core.Path.{_≡_, refl, sym, ap, _∙_}
 use native.Mathlib.Omega.{arith}
@@ -10,9 +10,9 @@ use Rattle.states.proofs.check.state_ok.Statement.{statement}
 use Rattle.states.proofs.check.state_ok.Tie as tie
 use Rattle.states.proofs.check.state_ok.Reads as reads
 use Rattle.states.proofs.check.state_ok.Lts as lts
-use Rattle.states.proofs.body.bodies.Reads as bodies-reads
+use Rattle.bodies.proofs.body.bodies.Reads as bodies-reads
 use Rattle.states.proofs.check.state_ok_with.Reads as state-ok-with-reads
-use Rattle.states.proofs.entry.index.Reads as index-reads
+use Rattle.bodies.proofs.entry.index.Reads as index-reads
 
 shared-slice-read-index : tie.Need-shared-slice-read-index
 shared-slice-read-index c =

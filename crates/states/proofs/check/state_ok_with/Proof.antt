@@ -2,7 +2,7 @@
 use Prim.Native.Nat.{ℕ, _<_, _≤_}
 use Rattle.rules.specs.Table.{size}
 use Rattle.states.proofs.Judged.{judged-many, judged-placed, judged-unchained, judged-unfit}
-use Rattle.states.proofs.Places.{entries-of}
+use Rattle.bodies.proofs.Places.{entries-of}
 use lib.ListN.{length}
 use mathlib.Core.Path.{_≡_, refl}
 use native.Mathlib.Omega.{arith}
@@ -14,7 +14,7 @@ use Rattle.states.proofs.check.state_ok_with.Lts as lts
 use Rattle.states.proofs.chain.chained.Reads as chained-reads
 use Rattle.states.proofs.check.memory_fits.Reads as memory-fits-reads
 use Rattle.states.proofs.check.placed.Reads as placed-reads
-use Rattle.states.proofs.entry.index.Reads as index-reads
+use Rattle.bodies.proofs.entry.index.Reads as index-reads
 
 -- what is known where the function begins
 abbrev Begun : Type 0

@@ -1,0 +1,4 @@
+pub mod Belows
+pub mod Sizes
+pub mod Formats
+pub mod Filled

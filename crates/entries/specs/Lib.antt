@@ -1,0 +1,4 @@
+pub mod Laid
+pub mod Below
+pub mod Coded
+pub mod Classes

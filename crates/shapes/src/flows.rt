@@ -1,0 +1,98 @@
+// The rules of the operations that can be executed, but for JSR and BSW [S Shape rules].
+ghost use mathlib.Core.Path.{_≡_};
+ghost use Prim.Native.Nat.{_≤_, _<_};
+ghost use Rattle.ops.specs.Class.{goes, forks, BRN, JMG, ENT, EXI, PPM, ERR, IFF, ESW, PRC, ENP};
+ghost use Rattle.rules.specs.Check as Check;
+ghost use Rattle.shapes.specs.Known.{Known};
+use crate::reach::global_target;
+use crate::reach::is_outside;
+use crate::reach::may_reach;
+use crate::reach::must_reach;
+use crate::reach::reaches;
+use crate::reach::target;
+use entries::layout::ENTRY;
+use entries::layout::HEADER;
+use entries::layout::index;
+use ops::format::NO_KIND;
+
+// An operation that goes on has one right after it in its body that can be arrived at.
+pub fn goes_ok(table: &[u32], classes: &[u32], body: &[u32], n: usize, p: usize) -> bool
+    requires { ⌜ Known (now table) (now classes) (now body) n × (p < n) ⌝ }
+    ensures { λ r. ⌜ r ≡ Check.holds (Check.flowRules (now (table .entry)) p goes) ⌝ }
+{
+    reaches(table, classes, body, n, p, p + 1)
+}
+
+// A branch goes on, or to one of its place operands, in its body.
+pub fn forks_ok(table: &[u32], classes: &[u32], body: &[u32], n: usize, p: usize) -> bool
+    requires { ⌜ Known (now table) (now classes) (now body) n × (p < n) ⌝ }
+    ensures { λ r. ⌜ r ≡ Check.holds (Check.flowRules (now (table .entry)) p forks) ⌝ }
+{
+    if !reaches(table, classes, body, n, p, p + 1) {
+        return false;
+    }
+    let one = target(table[HEADER + ENTRY * p + 1], table[HEADER + ENTRY * p + 3]);
+    if !may_reach(table, classes, body, n, p, one) {
+        return false;
+    }
+    let two = target(table[HEADER + ENTRY * p + 4], table[HEADER + ENTRY * p + 6]);
+    if !may_reach(table, classes, body, n, p, two) {
+        return false;
+    }
+    may_reach(
+        table,
+        classes,
+        body,
+        n,
+        p,
+        index(table[HEADER + ENTRY * p + 7]),
+    )
+}
+
+// BRN stays in its body.
+pub fn brn_ok(table: &[u32], classes: &[u32], body: &[u32], n: usize, p: usize) -> bool
+    requires { ⌜ Known (now table) (now classes) (now body) n × (p < n) ⌝ }
+    ensures { λ r. ⌜ r ≡ Check.holds (Check.flowRules (now (table .entry)) p BRN) ⌝ }
+{
+    let one = target(table[HEADER + ENTRY * p + 1], table[HEADER + ENTRY * p + 3]);
+    must_reach(table, classes, body, n, p, one)
+}
+
+// JMG goes to a place outside procedures.
+pub fn jmg_ok(table: &[u32], classes: &[u32], body: &[u32], n: usize, p: usize) -> bool
+    requires { ⌜ Known (now table) (now classes) (now body) n × (p < n) ⌝ }
+    ensures { λ r. ⌜ r ≡ Check.holds (Check.flowRules (now (table .entry)) p JMG) ⌝ }
+{
+    let one = target(table[HEADER + ENTRY * p + 1], table[HEADER + ENTRY * p + 3]);
+    global_target(table, classes, body, n, one)
+}
+
+// ENT, RTN and SSS go on and stand outside procedures.
+pub fn ent_ok(table: &[u32], classes: &[u32], body: &[u32], n: usize, p: usize) -> bool
+    requires { ⌜ Known (now table) (now classes) (now body) n × (p < n) ⌝ }
+    ensures { λ r. ⌜ r ≡ Check.holds (Check.flowRules (now (table .entry)) p ENT) ⌝ }
+{
+    if !reaches(table, classes, body, n, p, p + 1) {
+        return false;
+    }
+    is_outside(table, classes, body, n, p)
+}
+
+// EXI stands in a procedure, its number from 1 to the declared count.
+pub fn exi_ok(table: &[u32], classes: &[u32], body: &[u32], n: usize, p: usize) -> bool
+    requires { ⌜ Known (now table) (now classes) (now body) n × (p < n) ⌝ }
+    ensures { λ r. ⌜ r ≡ Check.holds (Check.flowRules (now (table .entry)) p EXI) ⌝ }
+{
+    let b = index(body[p]);
+    if b == 0 {
+        return false;
+    }
+    let q = b - 1;
+    if table[HEADER + ENTRY * q + 3] < table[HEADER + ENTRY * p + 3] {
+        return false;
+    }
+    if table[HEADER + ENTRY * p + 1] == NO_KIND {
+        return true;
+    }
+    0 < table[HEADER + ENTRY * p + 3]
+}

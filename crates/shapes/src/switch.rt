@@ -1,0 +1,139 @@
+// Switch lists: BSW has IFFs with distinct values below its limit, then ESW [S Shape rules].
+// A switch may be as long as the table, so values are not compared pair by pair: the IFFs are walked once, from the last to the first, and
+// each value below 1,024 is marked in an array of bytes. Only a larger value, which no table of 1,024 entries needs for a list without
+// holes, is compared with those after it.
+ghost use mathlib.Core.Path.{_≡_};
+ghost use mathlib.Core.Bool.{not};
+ghost use Prim.Native.Nat.{ℕ, suc, _+_, _*_, _≤_, _<_};
+ghost use lib.Dec.{eqb, ltb};
+ghost use lib.ListN.{length, getD};
+ghost use Rattle.base.specs.Test.{_and_, _or_};
+ghost use Rattle.ops.specs.Class.{BSW};
+ghost use Rattle.rules.specs.Check as Check;
+ghost use Rattle.rules.specs.Table.{value};
+ghost use Rattle.shapes.specs.Known.{Known};
+ghost use Rattle.shapes.specs.Counted.{Counted, Marked, differsAt, freshAt};
+use crate::reach::class_at;
+use crate::reach::may_reach;
+use entries::layout::ENTRY;
+use entries::layout::HEADER;
+use entries::layout::index;
+use ops::class;
+use ops::format::VALUE_KIND;
+
+// Values below this are marked.
+const MARKS: usize = 1024;
+
+// How many IFFs stand from place p on.
+fn count_iffs(table: &[u32], classes: &[u32], body: &[u32], n: usize, p: usize) -> usize
+    requires { ⌜ Known (now table) (now classes) (now body) n × (p ≤ n) ⌝ }
+    ensures { λ r. ⌜ Counted (now (table .entry)) p n r ⌝ }
+{
+    let mut k: usize = 0;
+    while p + k < n {
+        if classes[p + k] != class::IFF {
+            return k;
+        }
+        k += 1;
+    }
+    k
+}
+
+// The IFF at q has another value than v, or none that is known.
+fn differs(table: &[u32], q: usize, v: u32) -> bool
+    requires { ⌜ (q < 1024) × (8 + 8 * q + 7 < length (now table)) ⌝ }
+    ensures { λ r. ⌜ r ≡ differsAt (now (table .entry)) v q ⌝ }
+{
+    if table[HEADER + ENTRY * q + 1] != VALUE_KIND {
+        return true;
+    }
+    table[HEADER + ENTRY * q + 3] != v
+}
+
+// No IFF of the k from place p on has the value v.
+fn unlike(table: &[u32], v: u32, p: usize, k: usize) -> bool
+    requires { ⌜ (p + k ≤ 1024) × (8 + 8 * (p + k) ≤ length (now table)) ⌝ }
+    ensures { λ r. ⌜ r ≡ Check.unlike (now (table .entry)) v p k ⌝ }
+{
+    let mut i: usize = 0;
+    while i < k {
+        if !differs(table, p + i, v) {
+            return false;
+        }
+        i += 1;
+    }
+    true
+}
+
+// The value of the IFF at q is below the limit and unlike those of the k after it, whose small values are marked.
+fn is_fresh(table: &[u32], marks: &[u8], limit: u32, q: usize, k: usize) -> bool
+    requires { ⌜ (q + 1 + k ≤ 1024) × (8 + 8 * (q + 1 + k) ≤ length (now table)) × Marked (now table) (now marks) (q + 1) k ⌝ }
+    ensures { λ r. ⌜ r ≡ freshAt (now (table .entry)) limit q k ⌝ }
+{
+    if table[HEADER + ENTRY * q + 1] != VALUE_KIND {
+        return true;
+    }
+    let v = table[HEADER + ENTRY * q + 3];
+    if limit <= v {
+        return false;
+    }
+    let i = index(v);
+    if i < MARKS {
+        return marks[i] == 0;
+    }
+    unlike(table, v, q + 1, k)
+}
+
+// The value of the IFF at q is marked, where it is small.
+fn mark(table: &[u32], marks: &mut [u8], q: usize, k: usize)
+    requires { ⌜ (q < 1024) × (8 + 8 * q + 7 < length (now table)) × Marked (now table) (now marks) (q + 1) k ⌝ }
+    ensures { λ r. ⌜ Marked (now (table .entry)) (now (marks .exit)) q (suc k) ⌝ }
+{
+    if table[HEADER + ENTRY * q + 1] != VALUE_KIND {
+        return;
+    }
+    let i = index(table[HEADER + ENTRY * q + 3]);
+    if i < MARKS {
+        marks[i] = 1;
+    }
+}
+
+// The values of the k IFFs from place p on are below the limit, and distinct.
+fn are_distinct(table: &[u32], limit: u32, p: usize, k: usize) -> bool
+    requires { ⌜ (p + k ≤ 1024) × (8 + 8 * (p + k) ≤ length (now table)) ⌝ }
+    ensures { λ r. ⌜ r ≡ Check.distinctIffs (now (table .entry)) limit p k ⌝ }
+{
+    let mut marks = [0u8; 1024];
+    let mut left: usize = 0;
+    while left < k {
+        let q = p + (k - left - 1);
+        if !is_fresh(table, &marks, limit, q, left) {
+            return false;
+        }
+        mark(table, &mut marks, q, left);
+        left += 1;
+    }
+    true
+}
+
+// BSW: its list is lawful and closed by ESW, and its default stays in the body.
+pub fn bsw_ok(table: &[u32], classes: &[u32], body: &[u32], n: usize, p: usize) -> bool
+    requires { ⌜ Known (now table) (now classes) (now body) n × (p < n) ⌝ }
+    ensures { λ r. ⌜ r ≡ Check.holds (Check.flowRules (now (table .entry)) p BSW) ⌝ }
+{
+    let k = count_iffs(table, classes, body, n, p + 1);
+    if class_at(table, classes, body, n, p + 1 + k) != class::ESW {
+        return false;
+    }
+    if !are_distinct(table, table[HEADER + ENTRY * p + 6], p + 1, k) {
+        return false;
+    }
+    may_reach(
+        table,
+        classes,
+        body,
+        n,
+        p,
+        index(table[HEADER + ENTRY * p + 7]),
+    )
+}
