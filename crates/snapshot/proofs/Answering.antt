@@ -1,0 +1,65 @@
+-- The writer's answers: each refusal in its place, and the file that is written.
+-- Assumes nothing.
+use Prim.Native.Nat.{ℕ, _<_, _≤_}
+use mathlib.Core.Path.{_≡_, refl, sym, ap, _∙_}
+use mathlib.Core.Bool.{Bool, true, false}
+use mathlib.Core.List.{List, _++_}
+use borrow.Author.Tests.{le-ltb, lt-ltb}
+use lib.ListN.{length, drop}
+use Rattle.base.specs.Test.{if}
+use Rattle.rules.specs.Number.{badState, badTable, shortRoom}
+use Rattle.rules.specs.Check.{tableOk}
+use Rattle.rules.specs.State.{State, stateOk}
+use Rattle.rules.specs.Table.{freshCount}
+use Rattle.rules.specs.Snapshot.{fileLength, fileOf, filled, unwritten, writeOf}
+use Rattle.rules.proofs.Files.{length-fileOf}
+use Rattle.snapshot.specs.Answers.{Writes}
+use Rattle.snapshot.specs.Buffers.{put}
+use Rattle.snapshot.specs.declared.writing.Written.the-variants.{BadState, BadTable, Filled, ShortRoom}
+use Rattle.snapshot.proofs.Freshening.{put-front}
+use Rattle.snapshot.proofs.Wakings.{skip, stop}
+
+-- a choice by its test
+taken : {A : Type 0} (b : Bool) (x y : A) → b ≡ true → if b x y ≡ x
+unfolding if
+taken b x y e = rw e
+
+passed : {A : Type 0} (b : Bool) (x y : A) → b ≡ false → if b x y ≡ y
+unfolding if
+passed b x y e = rw e
+
+module _ (t : List ℕ) (s : State) (build : ℕ) (room : List ℕ) where
+  -- 30
+  pub unwritten-table : tableOk t ≡ false → Writes t s build room BadTable room
+  unfolding writeOf
+  unwritten-table a =
+      let u : writeOf t s build room ≡ unwritten badTable = stop _ _ _ a in
+      record { answer = sym u; bytes = rw u; size = rw u }
+
+  module _ (ok : tableOk t ≡ true) where
+    -- 31
+    pub unwritten-state : stateOk t s ≡ false → Writes t s build room BadState room
+    unfolding writeOf
+    unwritten-state a =
+        let u : writeOf t s build room ≡ unwritten badState = skip _ _ _ ok ∙ stop _ _ _ a in
+        record { answer = sym u; bytes = rw u; size = rw u }
+
+    module _ (passes : stateOk t s ≡ true) where
+      -- 45
+      pub unwritten-room : length room < fileLength (length (s .core .mem)) (length (s .links)) (freshCount t) → Writes t s build room ShortRoom room
+      unfolding writeOf
+      unwritten-room a =
+          let u : writeOf t s build room ≡ unwritten shortRoom = skip _ _ _ ok ∙ skip _ _ _ passes ∙ taken _ _ _ (lt-ltb _ _ a) in
+          record { answer = sym u; bytes = rw u; size = rw u }
+
+      -- the file at the front
+      pub written-file : (n : ℕ) (after : List ℕ) → fileLength (length (s .core .mem)) (length (s .links)) (freshCount t) ≤ length room
+          → n ≡ fileLength (length (s .core .mem)) (length (s .links)) (freshCount t) → after ≡ put room 0 (fileOf t s build)
+          → Writes t s build room (Filled n) after
+      unfolding writeOf
+      written-file n after a e h =
+          let whole : after ≡ fileOf t s build ++ drop (fileLength (length (s .core .mem)) (length (s .links)) (freshCount t)) room =
+          h ∙ put-front room (fileOf t s build) ∙ rw length-fileOf in
+          let u : writeOf t s build room ≡ filled after =
+          skip _ _ _ ok ∙ skip _ _ _ passes ∙ passed _ _ _ (le-ltb _ _ a) ∙ ap filled (sym whole) in
+          record { answer = sym u; bytes = rw u; size = rw u (e ∙ sym (length-fileOf t s build)) }

@@ -1,0 +1,10 @@
+pub mod Puts
+pub mod Trailers
+pub mod Reading
+pub mod Tables
+pub mod Freshening
+pub mod Machines
+pub mod Wakings
+pub mod Writings
+pub mod Answering
+pub mod Promises

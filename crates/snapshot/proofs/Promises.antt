@@ -1,0 +1,54 @@
+-- What a host may rely on, in terms of the two public functions: `Restores` and `Writes` are what restore and the writer ensure.
+-- The theorems are those of rules (Snapshots.antt), restated over these promises.
+-- Assumes nothing.
+use Prim.Native.Nat.{ℕ, _<_}
+use mathlib.Core.Path.{_≡_, refl, sym, ap, _∙_}
+use mathlib.Core.List.{List, _++_}
+use lib.ListN.{length, take}
+use Rattle.base.specs.Test.{Ok}
+use Rattle.base.specs.Lists.{_at_}
+use Rattle.rules.specs.State as Rules
+use Rattle.rules.specs.State.{stateOk}
+use Rattle.rules.specs.Table.{freshCount, freshIndex}
+use Rattle.rules.specs.Snapshot.{awakened, fileOf, woken}
+use Rattle.rules.proofs.Files.{Plain}
+use Rattle.rules.proofs.Snapshots.{SameButFresh, restore-written, restored-fresh, restored-passes, restored-twice, same-written}
+use Rattle.states.specs.declared.State.{State}
+use Rattle.states.specs.Views.{stateOf}
+use Rattle.snapshot.specs.Answers.{Restores, Writes}
+use Rattle.snapshot.specs.declared.waking.Answer.the-variants.{Woken}
+use Rattle.snapshot.specs.declared.waking.Restored.{Restored}
+use Rattle.snapshot.specs.declared.writing.Written.{Written}
+use Rattle.snapshot.specs.declared.writing.Written.the-variants.{Filled}
+
+module _ (t file : List ℕ) (build : ℕ) (fs lent : List ℕ) (s : State) (mem : List ℕ)
+    (done : Restores t file build fs lent (record { answer = Woken; state = s }) mem) where
+  -- a woken machine passes the state check, whatever the file was
+  pub woken-passes : Ok (stateOk t (stateOf s mem))
+  woken-passes = restored-passes t file build fs lent (stateOf s mem) (sym (done .answer))
+
+  -- its fresh words are the host's
+  pub woken-fresh : (i : ℕ) → i < freshCount t → mem at freshIndex t i ≡ fs at i
+  woken-fresh i l = restored-fresh t file build fs lent (stateOf s mem) (sym (done .answer)) i l
+
+  -- woken a second time, it differs in fresh words at most
+  pub woken-twice : (build′ : ℕ) (fs′ lent′ : List ℕ) (s′ : State) (mem′ : List ℕ)
+      → Restores t file build′ fs′ lent′ (record { answer = Woken; state = s′ }) mem′ → SameButFresh t (stateOf s mem) (stateOf s′ mem′)
+  woken-twice build′ fs′ lent′ s′ mem′ again =
+      restored-twice t file build build′ fs fs′ lent lent′ (stateOf s mem) (stateOf s′ mem′) (sym (done .answer)) (sym (again .answer))
+
+-- the writer's answer and room tell nothing of fresh words: machines that differ in these alone leave the same
+pub written-alike : (t : List ℕ) (s s′ : Rules.State) (build : ℕ) (room after after′ : List ℕ) (r r′ : Written) → SameButFresh t s s′
+    → Writes t s build room r after → Writes t s′ build room r′ after′ → after ≡ after′
+written-alike t s s′ build room after after′ r r′ h a b =
+    let e = same-written t s s′ build room h in
+    a .bytes ∙ rw e (sym (b .bytes))
+
+-- a machine that is written and woken is the machine that was written, with the fresh words that the host supplies now
+pub round-trip : (t : List ℕ) (s : Rules.State) (build n : ℕ) (room after front fs lent mem : List ℕ) (r : Restored) → Plain s build
+    → Writes t s build room (Filled n) after → length fs ≡ freshCount t → length lent ≡ length (s .core .mem)
+    → Restores t (front ++ take (length (fileOf t s build)) after) build fs lent r mem
+    → mem ≡ awakened t fs s .core .mem
+round-trip t s build n room after front fs lent mem r plain wrote supply lending done =
+    let e = restore-written t s build room after (sym (wrote .answer)) front fs lent plain supply lending in
+    done .memory ∙ rw e
