@@ -1,0 +1,17 @@
+pub mod Deck
+pub mod Reference
+pub mod LineDecks
+pub mod OperandDecks
+pub mod ShapeDecks
+pub mod CountDecks
+pub mod Clear
+pub mod Settled
+pub mod Places
+pub mod Lawful
+pub mod Lengths
+pub mod Counts
+pub mod Fresh
+pub mod Assembled
+pub mod TableDecks
+pub mod Order
+pub mod Laws
