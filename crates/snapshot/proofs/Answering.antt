@@ -1,7 +1,7 @@
 -- The writer's answers: each refusal in its place, and the file that is written.
 -- Assumes nothing.
 use Prim.Native.Nat.{ℕ, _<_, _≤_}
-use mathlib.Core.Path.{_≡_, refl, sym, ap, _∙_}
+use mathlib.Core.Path.{_≡_, sym, ap, _∙_}
 use mathlib.Core.Bool.{Bool, true, false}
 use mathlib.Core.List.{List, _++_}
 use borrow.Author.Tests.{le-ltb, lt-ltb}

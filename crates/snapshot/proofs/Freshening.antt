@@ -1,16 +1,16 @@
 -- Fresh words one by one: hidden in a file, found hidden, and supplied to memory.
 -- Assumes nothing.
-use Prim.Native.Nat.{ℕ, zero, suc, _+_, _*_, _-_, _<_, _≤_}
-use mathlib.Core.Path.{_≡_, refl, sym, ap, _∙_}
-use mathlib.Core.Bool.{Bool, true, false}
-use mathlib.Core.List.{List, [], _∷_, _++_}
+use Prim.Native.Nat.{ℕ, zero, suc, _+_, _*_, _<_, _≤_}
+use mathlib.Core.Path.{_≡_, sym, ap, _∙_}
+use mathlib.Core.Bool.{false}
+use mathlib.Core.List.{List, [], _++_}
 use mathlib.Core.Logic.{_≢_}
 use native.Mathlib.Omega.{arith}
 use native.Mathlib.Nat.{zero-add}
 use lib.ListN.{length, drop, set}
 use Rattle.base.specs.Test.{Ok, _and_}
 use Rattle.base.specs.Lists.{_at_}
-use Rattle.base.proofs.Bool.{passed, failed, and-i, eq-ok, test-true}
+use Rattle.base.proofs.Bool.{and-i, eq-ok}
 use Rattle.words.specs.Words.{bytesOf}
 use Rattle.rules.specs.Check.{tableOk}
 use Rattle.rules.specs.Table.{constants, freshCount, freshIndex, workings}

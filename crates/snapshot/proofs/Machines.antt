@@ -1,9 +1,9 @@
 -- The machine that a file holds: its links in an array, its state in code and back, and the tests of what it holds.
 -- Assumes nothing.
-use Prim.Native.Nat.{ℕ, zero, suc, _+_, _*_, _-_, _<_, _≤_}
+use Prim.Native.Nat.{ℕ, zero, suc, _+_, _-_, _<_, _≤_}
 use mathlib.Core.Path.{_≡_, refl, sym, ap, _∙_}
-use mathlib.Core.Bool.{Bool, true, false}
-use mathlib.Core.List.{List, [], _∷_, _++_}
+use mathlib.Core.Bool.{Bool, false}
+use mathlib.Core.List.{List, _++_}
 use native.Mathlib.Omega.{arith}
 use lib.Dec.{eqb}
 use lib.ListN.{length, take, drop, replicate, length-replicate}
@@ -11,9 +11,9 @@ use lib.Seq.{length-take-le, take-append-seam}
 use Rattle.base.specs.Test.{Ok, _and_}
 use Rattle.base.specs.Lists.{_at_}
 use Rattle.base.proofs.Bool.{and-l}
-use Rattle.ops.specs.Machine.{maxLinks, XL, XR, XS, WA, WB, WC, IA, FLAG}
+use Rattle.ops.specs.Machine.{XL, XR, XS, WA, WB, WC, IA, FLAG}
 use Rattle.rules.specs.State as Rules
-use Rattle.rules.specs.State.{Core, stateOk}
+use Rattle.rules.specs.State.{stateOk}
 use Rattle.rules.specs.Control.{stateAt}
 use Rattle.rules.specs.Start.{ownWords}
 use Rattle.rules.specs.Snapshot.{bit, frozenIn, frozenOk, linksFrom, linksIn, memoryFrom, memoryIn, trailerOk, wordsIn}
@@ -23,7 +23,7 @@ use Rattle.states.specs.declared.State.{State}
 use Rattle.states.specs.Views.{linksOf, stateOf}
 use Rattle.states.proofs.Front.{links-front}
 use Rattle.snapshot.specs.Views.{codeOf}
-use Rattle.snapshot.proofs.Trailers.{Trailed, not-ok, trailed}
+use Rattle.snapshot.proofs.Trailers.{not-ok, trailed}
 
 drop-replicate : (k n : ℕ) → drop {A = ℕ} k (replicate n 0) ≡ replicate (n - k) 0
 drop-replicate zero n =

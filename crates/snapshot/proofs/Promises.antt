@@ -2,7 +2,7 @@
 -- The theorems are those of rules (Snapshots.antt), restated over these promises.
 -- Assumes nothing.
 use Prim.Native.Nat.{ℕ, _<_}
-use mathlib.Core.Path.{_≡_, refl, sym, ap, _∙_}
+use mathlib.Core.Path.{_≡_, sym, _∙_}
 use mathlib.Core.List.{List, _++_}
 use lib.ListN.{length, take}
 use Rattle.base.specs.Test.{Ok}
@@ -15,7 +15,7 @@ use Rattle.rules.proofs.Files.{Plain}
 use Rattle.rules.proofs.Snapshots.{SameButFresh, restore-written, restored-fresh, restored-passes, restored-twice, same-written}
 use Rattle.states.specs.declared.State.{State}
 use Rattle.states.specs.Views.{stateOf}
-use Rattle.snapshot.specs.Answers.{Restores, Writes}
+use Rattle.snapshot.specs.Answers.{Restores, Writes, restoredOf}
 use Rattle.snapshot.specs.declared.waking.Answer.the-variants.{Woken}
 use Rattle.snapshot.specs.declared.waking.Restored.{Restored}
 use Rattle.snapshot.specs.declared.writing.Written.{Written}
@@ -48,7 +48,7 @@ written-alike t s s′ build room after after′ r r′ h a b =
 pub round-trip : (t : List ℕ) (s : Rules.State) (build n : ℕ) (room after front fs lent mem : List ℕ) (r : Restored) → Plain s build
     → Writes t s build room (Filled n) after → length fs ≡ freshCount t → length lent ≡ length (s .core .mem)
     → Restores t (front ++ take (length (fileOf t s build)) after) build fs lent r mem
-    → mem ≡ awakened t fs s .core .mem
+    → restoredOf r mem ≡ woken (awakened t fs s)
 round-trip t s build n room after front fs lent mem r plain wrote supply lending done =
     let e = restore-written t s build room after (sym (wrote .answer)) front fs lent plain supply lending in
-    done .memory ∙ rw e
+    done .answer ∙ e

@@ -1,16 +1,15 @@
 -- Bytes put into a buffer: its length, one put after another, and words put one by one.
 -- Assumes nothing.
-use Prim.Native.Nat.{ℕ, zero, suc, _+_, _*_, _-_, _<_, _≤_}
+use Prim.Native.Nat.{ℕ, zero, suc, _+_, _*_, _<_, _≤_}
 use mathlib.Core.Path.{_≡_, refl, sym, ap, _∙_}
 use mathlib.Core.List.{List, [], _∷_, _++_, append-assoc, append-nil}
 use native.Mathlib.Omega.{arith}
 use native.Mathlib.Nat.{add-assoc, add-zero}
-use lib.ListN.{length, take, drop, set, length-append, length-take, length-drop, take-append-drop, drop-of-length-le}
+use lib.ListN.{length, take, drop, set, length-append, take-append-drop, drop-of-length-le}
 use lib.Seq.{sets-eq, take-at, drop-at, length-take-le, drop-drop, drop-cons}
 use Rattle.base.specs.Lists.{_at_}
 use Rattle.words.specs.Words.{bytesOf}
 use Rattle.rules.specs.Snapshot.{bytesFrom}
-use Rattle.rules.proofs.Bytes.{length-bytesFrom}
 use Rattle.snapshot.specs.Buffers.{put}
 
 -- four stores of a word's bytes
@@ -22,11 +21,6 @@ put-stores l a w b e h =
     let two : a + 2 ≡ suc (suc a) = omega arith in
     let three : a + 3 ≡ suc (suc (suc a)) = omega arith in
     rw (e, one, two, three) (sets-eq (bytesOf w) l a h)
-
--- the buffer keeps its length
-pub length-put : (l : List ℕ) (a : ℕ) (xs : List ℕ) → a + length xs ≤ length l → length (put l a xs) ≡ length l
-unfolding put
-length-put l a xs h = simp (length-append, length-take, length-drop) (omega arith)
 
 -- nothing put
 pub put-nil : (l : List ℕ) (a : ℕ) → put l a [] ≡ l

@@ -1,8 +1,8 @@
 -- What a table that passes its check has: its header, its fresh addresses behind the entries, and its fresh words in the program's own.
 -- Assumes nothing.
 use Prim.Native.Nat.{ℕ, zero, suc, _+_, _*_, _-_, _<_, _≤_}
-use mathlib.Core.Path.{_≡_, refl, sym, ap, _∙_}
-use mathlib.Core.List.{List, [], _∷_}
+use mathlib.Core.Path.{_≡_, refl, ap}
+use mathlib.Core.List.{List, _∷_}
 use native.Mathlib.Omega.{arith}
 use lib.ListN.{length, take, drop}
 use lib.Seq.{drop-cons}
@@ -10,11 +10,10 @@ use Rattle.base.specs.Test.{Ok}
 use Rattle.base.specs.Lists.{_at_}
 use Rattle.base.proofs.Bool.{both, ok-eq}
 use Rattle.ops.specs.Machine.{maxInstrs, maxFresh, maxWords}
-use Rattle.rules.specs.Table.{constants, entryAt, externals, freshAt, freshCount, freshIndex, size, tableLength, workings}
+use Rattle.rules.specs.Table.{constants, entryAt, externals, freshAt, freshCount, size, tableLength, workings}
 use Rattle.rules.specs.Check.{layoutOk, tableOk}
 use Rattle.rules.specs.Snapshot.{freshList}
 use Rattle.rules.proofs.Files.{TableLimits, table-limits}
-use Rattle.rules.proofs.Memory.{freshIndex-inside}
 
 -- the sizes of a lawful table
 pub record Sizes (t : List ℕ) : Type 0 where
@@ -30,11 +29,6 @@ sizes t ok =
     let e : length t ≡ tableLength t = ok-eq _ _ (search both depth 9) in
     let l : TableLimits t = table-limits t ok in
     record { instrs = l .instrs; fresh = l .fresh; own = l .own; inside = omega arith }
-
--- fresh address i stands behind the entries
-pub freshAt-word : (t : List ℕ) (i : ℕ) → t at (8 + 8 * t at 0 + i) ≡ freshAt t i
-unfolding freshAt size
-freshAt-word t i = refl
 
 -- the fresh addresses are a part of the table
 freshList-from : (t : List ℕ) (i k : ℕ) → entryAt (size t) + i + k ≤ length t → take k (drop (entryAt (size t) + i) t) ≡ freshList t i k

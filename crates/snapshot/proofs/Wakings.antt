@@ -1,22 +1,19 @@
 -- Restore's answers: each refusal in its place, and the machine that is woken.
 -- Assumes nothing.
 use Prim.Native.Nat.{ℕ, _+_, _≤_}
-use mathlib.Core.Path.{_≡_, refl, sym, ap, _∙_}
+use mathlib.Core.Path.{_≡_, refl, ap, _∙_}
 use mathlib.Core.Bool.{Bool, true, false, not}
 use mathlib.Core.List.{List}
 use native.Mathlib.Omega.{arith}
 use borrow.Author.Tests.{eq-eqb, ne-eqb}
-use lib.Dec.{eqb}
 use lib.ListN.{length}
 use Rattle.base.specs.Test.{Ok, if}
-use Rattle.base.proofs.Bool.{and-l, eq-ok, test-true}
+use Rattle.base.proofs.Bool.{and-l}
 use Rattle.rules.specs.Number.{Refusal, badTable, badTrailer, otherProgram, badFrozen, freshCountOff, memoryLengthOff}
 use Rattle.rules.specs.State as Rules
 use Rattle.rules.specs.Check.{tableOk}
-use Rattle.rules.specs.Control.{stateAt}
 use Rattle.rules.specs.Table.{constants, freshCount, workings}
 use Rattle.rules.specs.Start.{refreshed}
-use Rattle.rules.specs.Snapshot as Snapshot
 use Rattle.rules.specs.Snapshot.{awakened, frozenIn, frozenOk, linksFrom, linksIn, memoryFrom, memoryIn, restoreOf, sameProgram, trailerOk, unwoken, woken, wordsIn}
 use Rattle.rules.proofs.Bytes.{length-wordsIn}
 use Rattle.rules.proofs.Files.{state-limits}

@@ -1,15 +1,13 @@
 -- The file written part by part, and the writer's answers.
 -- Assumes nothing.
-use Prim.Native.Nat.{ℕ, zero, suc, _+_, _*_, _-_, _<_, _≤_}
-use mathlib.Core.Path.{_≡_, refl, sym, ap, _∙_}
-use mathlib.Core.Bool.{Bool, true, false}
-use mathlib.Core.List.{List, [], _∷_, _++_, append-assoc}
+use Prim.Native.Nat.{ℕ, _+_, _*_, _≤_}
+use mathlib.Core.Path.{_≡_, refl, sym, _∙_}
+use mathlib.Core.List.{List, [], _∷_, _++_}
 use native.Mathlib.Omega.{arith}
 use lib.ListN.{length, take, length-append}
 use lib.Seq.{length-take-le}
 use Rattle.base.specs.Test.{Ok}
 use Rattle.ops.specs.Machine.{maxMemory}
-use Rattle.rules.specs.Check.{tableOk}
 use Rattle.rules.specs.State.{stateOk}
 use Rattle.rules.specs.Table.{constants, freshCount, workings}
 use Rattle.rules.specs.Snapshot.{bytesFrom, fileOf, fileWords, freshList, hidden, trailer}

@@ -1,8 +1,7 @@
 -- A machine of the rules as the code's state beside its memory.
 -- Assumes nothing.
-use Prim.Native.Nat.{ℕ, _-_}
-use mathlib.Core.Bool.{false}
-use mathlib.Core.List.{List, _++_}
+use Prim.Native.Nat.{_-_}
+use mathlib.Core.List.{_++_}
 use lib.Dec.{eqb}
 use lib.ListN.{length, replicate}
 use Rattle.base.specs.Lists.{_at_}

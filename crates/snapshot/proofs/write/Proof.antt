@@ -8,28 +8,19 @@ use Rattle.snapshot.proofs.Answering.{unwritten-table}
 use borrow.Author.Needs.{needs}
 use Rattle.snapshot.proofs.write.Statement.{statement}
 use Rattle.snapshot.proofs.write.Tie as tie
-use Rattle.snapshot.proofs.write.Reads as reads
-use Rattle.snapshot.proofs.write.Lts as lts
-use Rattle.snapshot.proofs.writing.write_checked.Reads as write-checked-reads
-use Rattle.tables.proofs.check_table.Reads as check-table-reads
 
--- src/lib.rt:46:9
 check-table-requires : tie.Need-check-table-requires
 check-table-requires c κs = search needs
 
--- src/lib.rt:47:9
 returns : tie.Need-returns
 returns c = unwritten-table (c .before .before .before .before .before .args .table .now) (stateOf (c .before .before .before .before .before .args .state) (c .before .before .before .before .before .args .memory .now)) _ _ (sym (c .before .check-table .ensures) ∙ not-true _ (c .if1 .taken))
 
--- src/lib.rt:49:5
 write-checked-requires : tie.Need-write-checked-requires
 write-checked-requires c κs = true-ok _ (sym (c .before .before .check-table .ensures) ∙ not-false _ (c .before .if1 .left))
 
--- src/lib.rt:37:1
 same-length : tie.Need-same-length
 same-length c = search needs
 
--- src/lib.rt:37:1
 returns-2 : tie.Need-returns-2
 returns-2 c = search needs
 

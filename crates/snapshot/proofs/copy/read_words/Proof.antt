@@ -9,9 +9,6 @@ use Rattle.rules.specs.Snapshot.{wordsIn}
 use Rattle.snapshot.proofs.Reading.{wordsIn-first, read-next, read-last}
 use Rattle.snapshot.proofs.copy.read_words.Statement.{statement}
 use Rattle.snapshot.proofs.copy.read_words.Tie as tie
-use Rattle.snapshot.proofs.copy.read_words.Reads as reads
-use Rattle.snapshot.proofs.copy.read_words.Lts as lts
-use Rattle.snapshot.proofs.copy.read_word.Reads as read-word-reads
 
 abbrev Inv-loop : tie.InvT-loop
 Inv-loop file at ws₀ n i₀ ws i = (n ≡ length ws₀) × (length ws ≡ n) × (i ≤ n) × (wordsIn file at n ≡ take i ws ++ wordsIn file (at + 4 * i) (n - i))
@@ -19,48 +16,37 @@ Inv-loop file at ws₀ n i₀ ws i = (n ≡ length ws₀) × (length ws ≡ n) �
 abbrev μ-loop : tie.MeasureT-loop
 μ-loop file at ws₀ n i₀ ws i = n - i
 
--- src/copy.rt:38:5
 loop-holds : tie.Need-loop-holds Inv-loop μ-loop
 loop-holds c = (refl, refl, omega arith, wordsIn-first _ _ _)
 
--- src/copy.rt:39:38
 mul-read-word : tie.Need-mul-read-word Inv-loop μ-loop
 mul-read-word c = omega arith
 
--- src/copy.rt:39:33
 add-read-word : tie.Need-add-read-word Inv-loop μ-loop
 add-read-word c = omega arith
 
--- src/copy.rt:39:17
 read-word-requires : tie.Need-read-word-requires Inv-loop μ-loop
 read-word-requires c κs = omega arith
 
--- src/copy.rt:39:9
 mul-ws : tie.Need-mul-ws Inv-loop μ-loop
 mul-ws c = omega arith
 
--- src/copy.rt:39:9
 slice-write-ws : tie.Need-slice-write-ws Inv-loop μ-loop
 slice-write-ws c = omega arith
 
--- src/copy.rt:40:9
 add-i : tie.Need-add-i Inv-loop μ-loop
 add-i c = omega arith
 
--- src/copy.rt:38:5
 loop-less : tie.Need-loop-less Inv-loop μ-loop
 loop-less c = omega arith
 
--- src/copy.rt:38:5
 loop-again : tie.Need-loop-again Inv-loop μ-loop
 loop-again c = let v = c .before .before .loop .inv in
     (v .0, simp length-set (v .1), omega arith, v .3 ∙ read-next _ _ _ _ _ _ (c .before .loop-test .taken) (v .1) (c .read-word .ensures))
 
--- src/copy.rt:32:1
 same-length : tie.Need-same-length Inv-loop μ-loop
 same-length c = omega arith
 
--- src/copy.rt:32:1
 returns : tie.Need-returns Inv-loop μ-loop
 returns c = let v = c .before .loop .inv in sym (v .3 ∙ read-last _ _ _ _ _ (c .loop-test .left) (v .1))
 

@@ -9,9 +9,6 @@ use Rattle.rules.specs.Snapshot.{wordsIn}
 use Rattle.snapshot.proofs.Reading.{same-first, same-next, same-other, same-last}
 use Rattle.snapshot.proofs.copy.same_words.Statement.{statement}
 use Rattle.snapshot.proofs.copy.same_words.Tie as tie
-use Rattle.snapshot.proofs.copy.same_words.Reads as reads
-use Rattle.snapshot.proofs.copy.same_words.Lts as lts
-use Rattle.snapshot.proofs.copy.read_word.Reads as read-word-reads
 
 abbrev Inv-loop : tie.InvT-loop
 Inv-loop file at ws n i₀ i = (n ≡ length ws) × (i ≤ n) × (same (wordsIn file at n) ws ≡ same (wordsIn file (at + 4 * i) (n - i)) (drop i ws))
@@ -19,48 +16,37 @@ Inv-loop file at ws n i₀ i = (n ≡ length ws) × (i ≤ n) × (same (wordsIn 
 abbrev μ-loop : tie.MeasureT-loop
 μ-loop file at ws n i₀ i = n - i
 
--- src/copy.rt:64:5
 loop-holds : tie.Need-loop-holds Inv-loop μ-loop
 loop-holds c = (refl, omega arith, same-first _ _ _ _)
 
--- src/copy.rt:65:33
 mul-read-word : tie.Need-mul-read-word Inv-loop μ-loop
 mul-read-word c = omega arith
 
--- src/copy.rt:65:28
 add-read-word : tie.Need-add-read-word Inv-loop μ-loop
 add-read-word c = omega arith
 
--- src/copy.rt:65:12
 read-word-requires : tie.Need-read-word-requires Inv-loop μ-loop
 read-word-requires c κs = omega arith
 
--- src/copy.rt:65:43
 mul-if1 : tie.Need-mul-if1 Inv-loop μ-loop
 mul-if1 c = omega arith
 
--- src/copy.rt:65:43
 shared-slice-read-if1 : tie.Need-shared-slice-read-if1 Inv-loop μ-loop
 shared-slice-read-if1 c = omega arith
 
--- src/copy.rt:66:13
 returns : tie.Need-returns Inv-loop μ-loop
 returns c = let v = c .before .before .before .before .loop .inv in sym (v .2 ∙ same-other _ _ _ _ _ (c .before .before .before .loop-test .taken) (sym (v .0)) (rw (c .before .before .read-word .ensures) at (c .if1 .taken)))
 
--- src/copy.rt:68:9
 add-i : tie.Need-add-i Inv-loop μ-loop
 add-i c = omega arith
 
--- src/copy.rt:64:5
 loop-less : tie.Need-loop-less Inv-loop μ-loop
 loop-less c = omega arith
 
--- src/copy.rt:64:5
 loop-again : tie.Need-loop-again Inv-loop μ-loop
 loop-again c = let v = c .before .before .before .before .loop .inv in
     (v .0, omega arith, v .2 ∙ same-next _ _ _ _ _ (c .before .before .before .loop-test .taken) (sym (v .0)) (rw (c .before .before .read-word .ensures) at (c .if1 .left)))
 
--- src/copy.rt:58:1
 returns-2 : tie.Need-returns-2 Inv-loop μ-loop
 returns-2 c = let v = c .before .loop .inv in sym (v .2 ∙ same-last _ _ _ _ _ (c .loop-test .left) (sym (v .0)))
 

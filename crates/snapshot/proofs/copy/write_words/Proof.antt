@@ -1,17 +1,14 @@
 -- `snapshot::copy::write_words` meets its contract. The loop's invariant: the words from i on, put into the buffer, are all that is left.
 -- Assumes nothing.
 use Prim.Native.Nat.{_+_, _*_, _-_, _≤_}
-use mathlib.Core.Path.{_≡_, refl, sym, ap, _∙_}
+use mathlib.Core.Path.{_≡_, refl, sym, _∙_}
 use native.Mathlib.Omega.{arith}
 use lib.ListN.{length, drop}
 use Rattle.rules.specs.Snapshot.{bytesFrom}
 use Rattle.snapshot.specs.Buffers.{put}
-use Rattle.snapshot.proofs.Puts.{length-put, put-first, put-next, put-last}
+use Rattle.snapshot.proofs.Puts.{put-first, put-next, put-last}
 use Rattle.snapshot.proofs.copy.write_words.Statement.{statement}
 use Rattle.snapshot.proofs.copy.write_words.Tie as tie
-use Rattle.snapshot.proofs.copy.write_words.Reads as reads
-use Rattle.snapshot.proofs.copy.write_words.Lts as lts
-use Rattle.snapshot.proofs.copy.write_word.Reads as write-word-reads
 
 abbrev Inv-loop : tie.InvT-loop
 Inv-loop file₀ at ws n i₀ file i = (n ≡ length ws) × (length file ≡ length file₀) × (i ≤ n) × (put file₀ at (bytesFrom ws) ≡ put file (at + 4 * i) (bytesFrom (drop i ws)))
@@ -19,48 +16,37 @@ Inv-loop file₀ at ws n i₀ file i = (n ≡ length ws) × (length file ≡ len
 abbrev μ-loop : tie.MeasureT-loop
 μ-loop file₀ at ws n i₀ file i = n - i
 
--- src/copy.rt:51:5
 loop-holds : tie.Need-loop-holds Inv-loop μ-loop
 loop-holds c = (refl, refl, omega arith, sym (put-first _ _ _))
 
--- src/copy.rt:52:31
 mul-write-word : tie.Need-mul-write-word Inv-loop μ-loop
 mul-write-word c = omega arith
 
--- src/copy.rt:52:26
 add-write-word : tie.Need-add-write-word Inv-loop μ-loop
 add-write-word c = omega arith
 
--- src/copy.rt:52:38
 mul-write-word-2 : tie.Need-mul-write-word-2 Inv-loop μ-loop
 mul-write-word-2 c = omega arith
 
--- src/copy.rt:52:38
 shared-slice-read-write-word : tie.Need-shared-slice-read-write-word Inv-loop μ-loop
 shared-slice-read-write-word c = omega arith
 
--- src/copy.rt:52:9
 write-word-requires : tie.Need-write-word-requires Inv-loop μ-loop
 write-word-requires c κs = omega arith
 
--- src/copy.rt:53:9
 add-i : tie.Need-add-i Inv-loop μ-loop
 add-i c = omega arith
 
--- src/copy.rt:51:5
 loop-less : tie.Need-loop-less Inv-loop μ-loop
 loop-less c = omega arith
 
--- src/copy.rt:51:5
 loop-again : tie.Need-loop-again Inv-loop μ-loop
 loop-again c = let v = c .before .before .before .before .before .before .loop .inv in
     (v .0, c .before .before .write-word .kept .0 ∙ v .1, omega arith, v .3 ∙ put-next _ _ _ _ (omega arith) (omega arith) ∙ rw (c .before .before .write-word .ensures))
 
--- src/copy.rt:45:1
 same-length : tie.Need-same-length Inv-loop μ-loop
 same-length c = omega arith
 
--- src/copy.rt:45:1
 returns : tie.Need-returns Inv-loop μ-loop
 returns c = let v = c .before .loop .inv in sym (v .3 ∙ put-last _ _ _ _ (omega arith))
 

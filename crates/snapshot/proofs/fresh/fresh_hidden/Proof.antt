@@ -1,24 +1,16 @@
 -- `snapshot::fresh::fresh_hidden` meets its contract. The loop's invariant: the first i fresh words are 0.
 -- Assumes nothing.
-use Prim.Native.Nat.{_+_, _*_, _-_, _≤_, _<_}
-use mathlib.Core.Path.{_≡_, refl, sym, ap, _∙_}
-use mathlib.Core.List.{List, [], _++_}
+use Prim.Native.Nat.{_-_, _≤_}
+use mathlib.Core.Path.{_≡_, sym}
 use native.Mathlib.Omega.{arith}
-use Rattle.rules.proofs.Memory.{freshIndex-inside, length-supplied}
-use Rattle.rules.specs.Start.{refreshed, supplied}
+use Rattle.rules.proofs.Memory.{freshIndex-inside}
 use Rattle.rules.specs.Table.{freshCount}
 use Rattle.base.specs.Test.{Ok}
-use lib.ListN.{length}
 use Rattle.rules.specs.Snapshot.{freshHidden, wordsIn}
 use Rattle.base.proofs.Bool.{passed, test-true}
 use Rattle.snapshot.proofs.Freshening.{hidden-next, hidden-not}
 use Rattle.snapshot.proofs.fresh.fresh_hidden.Statement.{statement}
 use Rattle.snapshot.proofs.fresh.fresh_hidden.Tie as tie
-use Rattle.snapshot.proofs.fresh.fresh_hidden.Reads as reads
-use Rattle.snapshot.proofs.fresh.fresh_hidden.Lts as lts
-use Rattle.snapshot.proofs.copy.read_word.Reads as read-word-reads
-use Rattle.snapshot.proofs.layout.fresh_count.Reads as fresh-count-reads
-use Rattle.snapshot.proofs.layout.fresh_index.Reads as fresh-index-reads
 
 abbrev Inv-loop : tie.InvT-loop
 Inv-loop file at m table f i₀ i = (f ≡ freshCount table) × (i ≤ f) × Ok (freshHidden table (wordsIn file at m) i)
@@ -26,48 +18,37 @@ Inv-loop file at m table f i₀ i = (f ≡ freshCount table) × (i ≤ f) × Ok 
 abbrev μ-loop : tie.MeasureT-loop
 μ-loop file at m table f i₀ i = f - i
 
--- src/fresh.rt:33:9
 fresh-count-requires : tie.Need-fresh-count-requires Inv-loop μ-loop
 fresh-count-requires c κs = c .before .before .pre .0
 
--- src/fresh.rt:35:5
 loop-holds : tie.Need-loop-holds Inv-loop μ-loop
 unfolding freshHidden
 loop-holds c = (c .fresh-count .ensures, omega arith, passed)
 
--- src/fresh.rt:36:40
 fresh-index-requires : tie.Need-fresh-index-requires Inv-loop μ-loop
 fresh-index-requires c κs = (c .before .before .before .before .before .pre .0, omega arith)
 
--- src/fresh.rt:36:33
 mul-read-word : tie.Need-mul-read-word Inv-loop μ-loop
 mul-read-word c = omega (arith, c .before .before .before .before .before .before .pre .1, c .fresh-index .ensures, freshIndex-inside _ (c .before .before .before .before .before .before .pre .0) (c .before .before .loop .i) (omega arith))
 
--- src/fresh.rt:36:28
 add-read-word : tie.Need-add-read-word Inv-loop μ-loop
 add-read-word c = omega (arith, c .before .before .before .before .before .before .pre .1, c .fresh-index .ensures, freshIndex-inside _ (c .before .before .before .before .before .before .pre .0) (c .before .before .loop .i) (omega arith))
 
--- src/fresh.rt:36:12
 read-word-requires : tie.Need-read-word-requires Inv-loop μ-loop
 read-word-requires c κs = omega (arith, c .before .before .before .before .before .before .pre .1, c .fresh-index .ensures, freshIndex-inside _ (c .before .before .before .before .before .before .pre .0) (c .before .before .loop .i) (omega arith))
 
--- src/fresh.rt:37:13
 returns : tie.Need-returns Inv-loop μ-loop
 returns c = sym (hidden-not _ _ _ _ (c .before .before .before .before .loop .i) _ (c .before .before .fresh-index .ensures) (omega (arith, c .before .before .before .before .before .before .before .before .pre .1, c .before .before .fresh-index .ensures, freshIndex-inside _ (c .before .before .before .before .before .before .before .before .pre .0) (c .before .before .before .before .loop .i) (omega arith))) (omega arith) (rw (c .before .read-word .ensures) at (c .if1 .taken)))
 
--- src/fresh.rt:39:9
 add-i : tie.Need-add-i Inv-loop μ-loop
 add-i c = omega arith
 
--- src/fresh.rt:35:5
 loop-less : tie.Need-loop-less Inv-loop μ-loop
 loop-less c = omega arith
 
--- src/fresh.rt:35:5
 loop-again : tie.Need-loop-again Inv-loop μ-loop
 loop-again c = let v = c .before .before .before .before .loop .inv in (v .0, omega arith, hidden-next _ _ _ _ (c .before .before .before .before .loop .i) _ (c .before .before .fresh-index .ensures) (omega (arith, c .before .before .before .before .before .before .before .before .pre .1, c .before .before .fresh-index .ensures, freshIndex-inside _ (c .before .before .before .before .before .before .before .before .pre .0) (c .before .before .before .before .loop .i) (omega arith))) (rw (c .before .read-word .ensures) at (c .if1 .left)) (v .2))
 
--- src/fresh.rt:29:1
 returns-2 : tie.Need-returns-2 Inv-loop μ-loop
 returns-2 c = let v = c .before .loop .inv in let e : c .before .loop .i ≡ freshCount (c .before .before .before .before .before .args .table .now) = omega arith in sym (test-true _ (rw e at (v .2)))
 

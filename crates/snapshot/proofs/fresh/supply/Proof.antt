@@ -1,21 +1,15 @@
 -- `snapshot::fresh::supply` meets its contract. The loop's invariant: the first i fresh words are supplied.
 -- Assumes nothing.
-use Prim.Native.Nat.{_+_, _*_, _-_, _≤_, _<_}
-use mathlib.Core.Path.{_≡_, refl, sym, ap, _∙_}
-use mathlib.Core.List.{List, [], _++_}
+use Prim.Native.Nat.{_-_, _≤_}
+use mathlib.Core.Path.{_≡_, refl, _∙_}
 use native.Mathlib.Omega.{arith}
-use Rattle.rules.proofs.Memory.{freshIndex-inside, length-supplied}
+use Rattle.rules.proofs.Memory.{freshIndex-inside}
 use Rattle.rules.specs.Start.{refreshed, supplied}
 use Rattle.rules.specs.Table.{freshCount}
-use Rattle.base.specs.Test.{Ok}
 use lib.ListN.{length, length-set}
 use Rattle.snapshot.proofs.Freshening.{supply-next}
 use Rattle.snapshot.proofs.fresh.supply.Statement.{statement}
 use Rattle.snapshot.proofs.fresh.supply.Tie as tie
-use Rattle.snapshot.proofs.fresh.supply.Reads as reads
-use Rattle.snapshot.proofs.fresh.supply.Lts as lts
-use Rattle.snapshot.proofs.layout.fresh_count.Reads as fresh-count-reads
-use Rattle.snapshot.proofs.layout.fresh_index.Reads as fresh-index-reads
 
 abbrev Inv-loop : tie.InvT-loop
 Inv-loop memory₀ table fresh f i₀ memory i = (f ≡ freshCount table) × (length memory ≡ length memory₀) × (i ≤ f) × (memory ≡ supplied table fresh i memory₀)
@@ -23,52 +17,40 @@ Inv-loop memory₀ table fresh f i₀ memory i = (f ≡ freshCount table) × (le
 abbrev μ-loop : tie.MeasureT-loop
 μ-loop memory₀ table fresh f i₀ memory i = f - i
 
--- src/fresh.rt:49:9
 fresh-count-requires : tie.Need-fresh-count-requires Inv-loop μ-loop
 fresh-count-requires c κs = c .before .before .before .pre .0
 
--- src/fresh.rt:51:5
 loop-holds : tie.Need-loop-holds Inv-loop μ-loop
 unfolding supplied
 loop-holds c = (c .fresh-count .ensures, refl, omega arith, refl)
 
--- src/fresh.rt:52:13
 fresh-index-requires : tie.Need-fresh-index-requires Inv-loop μ-loop
 fresh-index-requires c κs = (c .before .before .before .before .before .before .pre .0, omega arith)
 
--- src/fresh.rt:53:22
 mul-memory : tie.Need-mul-memory Inv-loop μ-loop
 mul-memory c = omega arith
 
--- src/fresh.rt:53:22
 shared-slice-read-memory : tie.Need-shared-slice-read-memory Inv-loop μ-loop
 shared-slice-read-memory c = omega arith
 
--- src/fresh.rt:53:9
 mul-memory-2 : tie.Need-mul-memory-2 Inv-loop μ-loop
 mul-memory-2 c = omega (arith, c .before .before .before .before .before .before .before .before .pre .1, c .before .fresh-index .ensures, freshIndex-inside _ (c .before .before .before .before .before .before .before .before .pre .0) (c .before .before .before .loop .i) (omega arith))
 
--- src/fresh.rt:53:9
 slice-write-memory : tie.Need-slice-write-memory Inv-loop μ-loop
 slice-write-memory c = omega (arith, c .before .before .before .before .before .before .before .before .pre .1, c .before .fresh-index .ensures, freshIndex-inside _ (c .before .before .before .before .before .before .before .before .pre .0) (c .before .before .before .loop .i) (omega arith))
 
--- src/fresh.rt:54:9
 add-i : tie.Need-add-i Inv-loop μ-loop
 add-i c = omega arith
 
--- src/fresh.rt:51:5
 loop-less : tie.Need-loop-less Inv-loop μ-loop
 loop-less c = omega arith
 
--- src/fresh.rt:51:5
 loop-again : tie.Need-loop-again Inv-loop μ-loop
 loop-again c = let v = c .before .before .before .loop .inv in (v .0, simp length-set (v .1), omega arith, supply-next _ _ _ _ _ _ (c .before .fresh-index .ensures) (v .3))
 
--- src/fresh.rt:45:1
 same-length : tie.Need-same-length Inv-loop μ-loop
 same-length c = omega arith
 
--- src/fresh.rt:45:1
 returns : tie.Need-returns Inv-loop μ-loop
 unfolding refreshed
 returns c = let v = c .before .loop .inv in let e : c .before .loop .i ≡ freshCount (c .before .before .before .before .before .before .args .table .now) = omega arith in v .3 ∙ rw e

@@ -1,25 +1,17 @@
 -- `snapshot::fresh::write_memory` meets its contract. The loop's invariant: the file begins with memory, its first i fresh words as 0.
 -- Assumes nothing.
-use Prim.Native.Nat.{ℕ, _+_, _*_, _-_, _≤_, _<_}
-use mathlib.Core.Path.{_≡_, refl, sym, ap, _∙_}
+use Prim.Native.Nat.{ℕ, _+_, _-_, _≤_}
+use mathlib.Core.Path.{_≡_, refl, _∙_}
 use mathlib.Core.List.{List, [], _++_}
 use native.Mathlib.Omega.{arith}
-use Rattle.rules.proofs.Memory.{freshIndex-inside, length-supplied}
-use Rattle.rules.specs.Start.{refreshed, supplied}
+use Rattle.rules.proofs.Memory.{freshIndex-inside}
+use Rattle.rules.specs.Start.{supplied}
 use Rattle.rules.specs.Table.{freshCount}
-use Rattle.base.specs.Test.{Ok}
-use lib.ListN.{length, drop}
+use lib.ListN.{length}
 use Rattle.rules.specs.Snapshot.{bytesFrom}
-use Rattle.rules.proofs.Bytes.{length-bytesFrom}
 use Rattle.snapshot.proofs.Freshening.{put-front, hide-next, hide-last}
 use Rattle.snapshot.proofs.fresh.write_memory.Statement.{statement}
 use Rattle.snapshot.proofs.fresh.write_memory.Tie as tie
-use Rattle.snapshot.proofs.fresh.write_memory.Reads as reads
-use Rattle.snapshot.proofs.fresh.write_memory.Lts as lts
-use Rattle.snapshot.proofs.copy.write_word.Reads as write-word-reads
-use Rattle.snapshot.proofs.copy.write_words.Reads as write-words-reads
-use Rattle.snapshot.proofs.layout.fresh_count.Reads as fresh-count-reads
-use Rattle.snapshot.proofs.layout.fresh_index.Reads as fresh-index-reads
 
 abbrev Inv-loop : tie.InvT-loop
 Inv-loop file₀ table memory f i₀ file i = (f ≡ freshCount table) × (length file ≡ length file₀) × (i ≤ f) × ((r : List ℕ) → file₀ ≡ bytesFrom memory ++ r → file ≡ bytesFrom (supplied table [] i memory) ++ r)
@@ -27,48 +19,37 @@ Inv-loop file₀ table memory f i₀ file i = (f ≡ freshCount table) × (lengt
 abbrev μ-loop : tie.MeasureT-loop
 μ-loop file₀ table memory f i₀ file i = f - i
 
--- src/fresh.rt:19:5
 write-words-requires : tie.Need-write-words-requires Inv-loop μ-loop
 write-words-requires c κs = omega (arith, c .before .before .before .before .pre .2)
 
--- src/fresh.rt:20:9
 fresh-count-requires : tie.Need-fresh-count-requires Inv-loop μ-loop
 fresh-count-requires c κs = c .before .before .before .before .before .before .before .pre .0
 
--- src/fresh.rt:22:5
 loop-holds : tie.Need-loop-holds Inv-loop μ-loop
 unfolding supplied
 loop-holds c = (c .fresh-count .ensures, refl, omega arith, λ r e. e)
 
--- src/fresh.rt:23:33
 fresh-index-requires : tie.Need-fresh-index-requires Inv-loop μ-loop
 fresh-index-requires c κs = (c .before .before .before .before .before .before .before .before .before .before .before .pre .0, omega arith)
 
--- src/fresh.rt:23:26
 mul-write-word : tie.Need-mul-write-word Inv-loop μ-loop
 mul-write-word c = omega (arith, c .before .before .before .before .before .before .before .before .before .before .before .before .pre .1, c .before .before .before .before .before .before .before .before .before .before .before .before .pre .2, c .before .before .before .before .before .before .before .write-words .kept .0, c .fresh-index .ensures, freshIndex-inside _ (c .before .before .before .before .before .before .before .before .before .before .before .before .pre .0) (c .before .before .before .loop .i) (omega arith))
 
--- src/fresh.rt:23:9
 write-word-requires : tie.Need-write-word-requires Inv-loop μ-loop
 write-word-requires c κs = omega (arith, c .before .before .before .before .before .before .before .before .before .before .before .before .pre .1, c .before .before .before .before .before .before .before .before .before .before .before .before .pre .2, c .before .before .before .before .before .before .before .write-words .kept .0, c .fresh-index .ensures, freshIndex-inside _ (c .before .before .before .before .before .before .before .before .before .before .before .before .pre .0) (c .before .before .before .loop .i) (omega arith))
 
--- src/fresh.rt:24:9
 add-i : tie.Need-add-i Inv-loop μ-loop
 add-i c = omega arith
 
--- src/fresh.rt:22:5
 loop-less : tie.Need-loop-less Inv-loop μ-loop
 loop-less c = omega arith
 
--- src/fresh.rt:22:5
 loop-again : tie.Need-loop-again Inv-loop μ-loop
 loop-again c = let v = c .before .before .before .before .before .before .loop .inv in (v .0, c .before .before .write-word .kept .0 ∙ v .1, omega arith, λ r e. c .before .before .write-word .ensures ∙ hide-next _ _ _ _ (c .before .before .before .before .before .before .loop .i) _ (c .before .before .before .before .before .before .before .before .before .before .before .before .before .before .before .pre .0) (c .before .before .before .before .before .before .before .before .before .before .before .before .before .before .before .pre .1) (omega arith) (c .before .before .before .fresh-index .ensures) (v .3 r e))
 
--- src/fresh.rt:15:1
 same-length : tie.Need-same-length Inv-loop μ-loop
 same-length c = omega arith
 
--- src/fresh.rt:15:1
 returns : tie.Need-returns Inv-loop μ-loop
 returns c = let v = c .before .loop .inv in hide-last _ _ _ _ (c .before .loop .i) (omega arith) (v .3 _ (c .before .before .before .before .before .write-words .ensures ∙ put-front _ _))
 

@@ -1,13 +1,11 @@
 -- `snapshot::frozen::frozen_ok` meets its contract: too many links, a state that does not pass, then the fresh words.
 -- Assumes nothing.
 use Prim.Native.Nat.{_≤_}
-use mathlib.Core.Path.{_≡_, refl, sym, ap, _∙_}
+use mathlib.Core.Path.{_≡_, sym, _∙_}
 use native.Mathlib.Omega.{arith}
 use borrow.Author.Tests.{not-true, not-false}
-use Rattle.base.specs.Test.{Ok}
 use Rattle.base.proofs.Bool.{true-ok}
-use Rattle.rules.specs.Snapshot.{frozenIn, frozenOk, linksIn, linksFrom, memoryFrom, memoryIn}
-use Rattle.rules.specs.State.{stateOk}
+use Rattle.rules.specs.Snapshot.{frozenIn, frozenOk, linksIn, memoryFrom, memoryIn}
 use Rattle.rules.proofs.Bytes.{length-wordsIn}
 use Rattle.rules.proofs.Files.{state-limits}
 use Rattle.snapshot.proofs.Trailers.{and-yes, and-no, trailed}
@@ -15,44 +13,28 @@ use Rattle.snapshot.proofs.Machines.{frozen-checked, frozen-many}
 use borrow.Author.Needs.{needs}
 use Rattle.snapshot.proofs.frozen.frozen_ok.Statement.{statement}
 use Rattle.snapshot.proofs.frozen.frozen_ok.Tie as tie
-use Rattle.snapshot.proofs.frozen.frozen_ok.Reads as reads
-use Rattle.snapshot.proofs.frozen.frozen_ok.Lts as lts
-use Rattle.snapshot.proofs.fresh.fresh_hidden.Reads as fresh-hidden-reads
-use Rattle.snapshot.proofs.frozen.frozen_state.Reads as frozen-state-reads
-use Rattle.snapshot.proofs.layout.index.Reads as index-reads
-use Rattle.snapshot.proofs.trailer.memory_from.Reads as memory-from-reads
-use Rattle.snapshot.proofs.trailer.trailer_word.Reads as trailer-word-reads
-use Rattle.states.proofs.check.state_ok.Reads as state-ok-reads
 
--- src/frozen.rt:63:35
 trailer-word-requires : tie.Need-trailer-word-requires
 trailer-word-requires c κs = (omega (arith, trailed _ (c .before .before .pre .1)), omega arith)
 
--- src/frozen.rt:63:29
 index-requires : tie.Need-index-requires
 index-requires c κs = search needs
 
--- src/frozen.rt:64:9
 returns : tie.Need-returns
 returns c = sym (frozen-many _ _ (omega (arith, c .if1 .taken, c .before .index .ensures, c .before .before .trailer-word .ensures)))
 
--- src/frozen.rt:66:19
 trailer-word-requires-2 : tie.Need-trailer-word-requires-2
 trailer-word-requires-2 c κs = (omega (arith, trailed _ (c .before .before .before .before .before .pre .1)), omega arith)
 
--- src/frozen.rt:66:9
 index-requires-2 : tie.Need-index-requires-2
 index-requires-2 c κs = search needs
 
--- src/frozen.rt:67:9
 frozen-state-requires : tie.Need-frozen-state-requires
 frozen-state-requires c κs = (c .before .before .before .before .before .before .before .pre .1, omega (arith, c .before .before .before .index .ensures, c .before .before .before .before .trailer-word .ensures))
 
--- src/frozen.rt:68:9
 state-ok-requires : tie.Need-state-ok-requires
 state-ok-requires c κs = c .before .before .before .before .before .before .before .before .pre .0
 
--- src/frozen.rt:69:9
 returns-2 : tie.Need-returns-2
 unfolding frozenOk
 returns-2 c =
@@ -60,11 +42,9 @@ returns-2 c =
     let e = frozen-checked _ _ _ _ _ (c .before .before .before .before .before .before .before .before .before .before .pre .1) few (c .before .before .frozen-state .ensures) (c .before .before .before .index2 .ensures ∙ c .before .before .before .before .trailer-word2 .ensures) (c .before .state-ok .ensures) in
     sym (and-no _ _ (sym e ∙ not-true _ (c .if2 .taken)))
 
--- src/frozen.rt:71:24
 memory-from-requires : tie.Need-memory-from-requires
 memory-from-requires c κs = c .before .before .before .before .before .before .before .before .before .before .pre .1
 
--- src/frozen.rt:71:5
 fresh-hidden-requires : tie.Need-fresh-hidden-requires
 unfolding frozenIn
 fresh-hidden-requires c κs =
@@ -74,7 +54,6 @@ fresh-hidden-requires c κs =
     let m = length-wordsIn (c .before .before .before .before .before .before .before .before .before .before .before .args .file .now) (memoryFrom (c .before .before .before .before .before .before .before .before .before .before .before .args .file .now)) (memoryIn (c .before .before .before .before .before .before .before .before .before .before .before .args .file .now)) in
     (c .before .before .before .before .before .before .before .before .before .before .before .pre .0, omega (arith, l .room, c .before .before .before .before .index2 .ensures, c .before .before .before .before .before .trailer-word2 .ensures), omega (arith, c .memory-from .ensures, c .before .before .before .before .index2 .ensures, c .before .before .before .before .before .trailer-word2 .ensures, trailed _ (c .before .before .before .before .before .before .before .before .before .before .before .pre .1)))
 
--- src/frozen.rt:59:1
 returns-3 : tie.Need-returns-3
 unfolding frozenOk frozenIn
 returns-3 c =

@@ -1,67 +1,48 @@
 -- `snapshot::frozen::frozen_state` meets its contract: each word of the trailer in its field.
 -- Assumes nothing.
-use mathlib.Core.Path.{_≡_, refl, sym, ap, _∙_}
 use native.Mathlib.Omega.{arith}
 use Rattle.rules.specs.Snapshot.{frozenIn}
 use Rattle.rules.proofs.Bytes.{length-wordsIn}
 use Rattle.snapshot.proofs.Trailers.{trailed}
-use borrow.Author.Needs.{needs}
 use Rattle.snapshot.proofs.frozen.frozen_state.Statement.{statement}
 use Rattle.snapshot.proofs.frozen.frozen_state.Tie as tie
-use Rattle.snapshot.proofs.frozen.frozen_state.Reads as reads
-use Rattle.snapshot.proofs.frozen.frozen_state.Lts as lts
-use Rattle.snapshot.proofs.frozen.frozen_links.Reads as frozen-links-reads
-use Rattle.snapshot.proofs.trailer.trailer_word.Reads as trailer-word-reads
 
--- src/frozen.rt:41:9
 frozen-links-requires : tie.Need-frozen-links-requires
 frozen-links-requires c κs = c .before .pre
 
--- src/frozen.rt:43:13
 trailer-word-requires : tie.Need-trailer-word-requires
 trailer-word-requires c κs = (omega (arith, trailed _ (c .before .before .pre .0)), omega arith)
 
--- src/frozen.rt:44:13
 trailer-word-requires-2 : tie.Need-trailer-word-requires-2
 trailer-word-requires-2 c κs = (omega (arith, trailed _ (c .before .before .before .pre .0)), omega arith)
 
--- src/frozen.rt:45:13
 trailer-word-requires-3 : tie.Need-trailer-word-requires-3
 trailer-word-requires-3 c κs = (omega (arith, trailed _ (c .before .before .before .before .pre .0)), omega arith)
 
--- src/frozen.rt:46:13
 trailer-word-requires-4 : tie.Need-trailer-word-requires-4
 trailer-word-requires-4 c κs = (omega (arith, trailed _ (c .before .before .before .before .before .pre .0)), omega arith)
 
--- src/frozen.rt:47:13
 trailer-word-requires-5 : tie.Need-trailer-word-requires-5
 trailer-word-requires-5 c κs = (omega (arith, trailed _ (c .before .before .before .before .before .before .pre .0)), omega arith)
 
--- src/frozen.rt:48:13
 trailer-word-requires-6 : tie.Need-trailer-word-requires-6
 trailer-word-requires-6 c κs = (omega (arith, trailed _ (c .before .before .before .before .before .before .before .pre .0)), omega arith)
 
--- src/frozen.rt:49:13
 trailer-word-requires-7 : tie.Need-trailer-word-requires-7
 trailer-word-requires-7 c κs = (omega (arith, trailed _ (c .before .before .before .before .before .before .before .before .pre .0)), omega arith)
 
--- src/frozen.rt:50:15
 trailer-word-requires-8 : tie.Need-trailer-word-requires-8
 trailer-word-requires-8 c κs = (omega (arith, trailed _ (c .before .before .before .before .before .before .before .before .before .pre .0)), omega arith)
 
--- src/frozen.rt:51:13
 trailer-word-requires-9 : tie.Need-trailer-word-requires-9
 trailer-word-requires-9 c κs = (omega (arith, trailed _ (c .before .before .before .before .before .before .before .before .before .before .pre .0)), omega arith)
 
--- src/frozen.rt:52:18
 trailer-word-requires-10 : tie.Need-trailer-word-requires-10
 trailer-word-requires-10 c κs = (omega (arith, trailed _ (c .before .before .before .before .before .before .before .before .before .before .before .pre .0)), omega arith)
 
--- src/frozen.rt:53:16
 trailer-word-requires-11 : tie.Need-trailer-word-requires-11
 trailer-word-requires-11 c κs = (omega (arith, trailed _ (c .before .before .before .before .before .before .before .before .before .before .before .before .pre .0)), omega arith)
 
--- src/frozen.rt:37:1
 returns : tie.Need-returns
 unfolding frozenIn
 returns c = rw (length-wordsIn, c .before .before .before .before .before .before .before .before .before .before .before .frozen-links .ensures, c .before .before .before .before .before .before .before .before .before .before .trailer-word .ensures, c .before .before .before .before .before .before .before .before .before .trailer-word2 .ensures, c .before .before .before .before .before .before .before .before .trailer-word3 .ensures, c .before .before .before .before .before .before .before .trailer-word4 .ensures, c .before .before .before .before .before .before .trailer-word5 .ensures, c .before .before .before .before .before .trailer-word6 .ensures, c .before .before .before .before .trailer-word7 .ensures, c .before .before .before .trailer-word8 .ensures, c .before .before .trailer-word9 .ensures, c .before .trailer-word10 .ensures, c .trailer-word11 .ensures)

@@ -1,41 +1,30 @@
 -- `snapshot::layout::fresh_index` meets its contract.
 -- Assumes nothing.
-use mathlib.Core.Path.{_≡_, refl, sym, ap, _∙_}
 use native.Mathlib.Omega.{arith}
 use Rattle.snapshot.proofs.Tables.{sizes}
 use Rattle.rules.specs.Table.{freshAt, freshCount, size}
 use borrow.Author.Needs.{needs}
 use Rattle.snapshot.proofs.layout.fresh_index.Statement.{statement}
 use Rattle.snapshot.proofs.layout.fresh_index.Tie as tie
-use Rattle.snapshot.proofs.layout.fresh_index.Reads as reads
-use Rattle.snapshot.proofs.layout.fresh_index.Lts as lts
-use Rattle.snapshot.proofs.layout.fresh_base.Reads as fresh-base-reads
-use Rattle.snapshot.proofs.layout.index.Reads as index-reads
 
--- src/layout.rt:55:14
 fresh-base-requires : tie.Need-fresh-base-requires
 fresh-base-requires c κs = search needs
 
--- src/layout.rt:55:14
 add-at : tie.Need-add-at
 unfolding freshCount size
 add-at c = omega (arith, c .fresh-base .ensures, c .before .before .pre .1, sizes _ (c .before .before .pre .0))
 
--- src/layout.rt:56:11
 mul-index : tie.Need-mul-index
 unfolding freshCount size
 mul-index c = omega (arith, c .fresh-base .ensures, c .before .before .pre .1, sizes _ (c .before .before .pre .0))
 
--- src/layout.rt:56:11
 shared-slice-read-index : tie.Need-shared-slice-read-index
 unfolding freshCount size
 shared-slice-read-index c = omega (arith, c .before .fresh-base .ensures, c .before .before .before .pre .1, sizes _ (c .before .before .before .pre .0))
 
--- src/layout.rt:56:5
 index-requires : tie.Need-index-requires
 index-requires c κs = search needs
 
--- src/layout.rt:51:1
 returns : tie.Need-returns
 unfolding freshAt
 returns c = rw (c .index .ensures, c .before .before .fresh-base .ensures)

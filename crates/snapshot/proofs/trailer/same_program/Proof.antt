@@ -1,6 +1,6 @@
 -- `snapshot::trailer::same_program` meets its contract: each test in turn; the fresh addresses are a part of the table.
 -- Assumes nothing.
-use mathlib.Core.Path.{_≡_, refl, sym, ap, _∙_}
+use mathlib.Core.Path.{sym, _∙_}
 use native.Mathlib.Omega.{arith}
 use borrow.Author.Tests.{eq-eqb, ne-eqb}
 use Rattle.rules.specs.Snapshot.{sameProgram}
@@ -11,90 +11,65 @@ use Rattle.snapshot.proofs.Trailers.{and-yes, and-no, same-program, tra
 use borrow.Author.Needs.{needs}
 use Rattle.snapshot.proofs.trailer.same_program.Statement.{statement}
 use Rattle.snapshot.proofs.trailer.same_program.Tie as tie
-use Rattle.snapshot.proofs.trailer.same_program.Reads as reads
-use Rattle.snapshot.proofs.trailer.same_program.Lts as lts
-use Rattle.snapshot.proofs.copy.same_words.Reads as same-words-reads
-use Rattle.snapshot.proofs.layout.fresh_base.Reads as fresh-base-reads
-use Rattle.snapshot.proofs.layout.fresh_count.Reads as fresh-count-reads
-use Rattle.snapshot.proofs.trailer.fresh_from.Reads as fresh-from-reads
-use Rattle.snapshot.proofs.trailer.trailer_word.Reads as trailer-word-reads
 
--- src/trailer.rt:109:8
 trailer-word-requires : tie.Need-trailer-word-requires
 trailer-word-requires c κs = (omega (arith, trailed _ (c .before .before .pre .1)), omega arith)
 
--- src/trailer.rt:110:9
 returns : tie.Need-returns
 unfolding sameProgram
 returns c = sym (and-no _ _ (ne-eqb _ _ (rw (c .before .trailer-word .ensures) at (c .if1 .taken))))
 
--- src/trailer.rt:112:8
 trailer-word-requires-2 : tie.Need-trailer-word-requires-2
 trailer-word-requires-2 c κs = (omega (arith, trailed _ (c .before .before .before .before .pre .1)), omega arith)
 
--- src/trailer.rt:112:36
 shared-slice-read-if2 : tie.Need-shared-slice-read-if2
 shared-slice-read-if2 c = omega (arith, sizes _ (c .before .before .before .before .before .before .pre .0))
 
--- src/trailer.rt:113:9
 returns-2 : tie.Need-returns-2
 unfolding sameProgram size
 returns-2 c =
     sym (and-yes _ _ (eq-eqb _ _ (rw (c .before .before .before .before .trailer-word .ensures) at (c .before .before .before .if1 .left))) ∙ and-no _ _ (ne-eqb _ _ (rw (c .before .before .trailer-word2 .ensures) at (c .if2 .taken))))
 
--- src/trailer.rt:115:8
 trailer-word-requires-3 : tie.Need-trailer-word-requires-3
 trailer-word-requires-3 c κs = (omega (arith, trailed _ (c .before .before .before .before .before .before .before .pre .1)), omega arith)
 
--- src/trailer.rt:115:37
 shared-slice-read-if3 : tie.Need-shared-slice-read-if3
 shared-slice-read-if3 c = omega (arith, sizes _ (c .before .before .before .before .before .before .before .before .before .pre .0))
 
--- src/trailer.rt:116:9
 returns-3 : tie.Need-returns-3
 unfolding sameProgram size freshCount
 returns-3 c =
     sym (and-yes _ _ (eq-eqb _ _ (rw (c .before .before .before .before .before .before .before .trailer-word .ensures) at (c .before .before .before .before .before .before .if1 .left))) ∙ and-yes _ _ (eq-eqb _ _ (rw (c .before .before .before .before .before .trailer-word2 .ensures) at (c .before .before .before .if2 .left))) ∙ and-no _ _ (ne-eqb _ _ (rw (c .before .before .trailer-word3 .ensures) at (c .if3 .taken))))
 
--- src/trailer.rt:118:9
 fresh-base-requires : tie.Need-fresh-base-requires
 fresh-base-requires c κs = search needs
 
--- src/trailer.rt:119:21
 fresh-count-requires : tie.Need-fresh-count-requires
 fresh-count-requires c κs = search needs
 
--- src/trailer.rt:119:14
 add-to : tie.Need-add-to
 add-to c = omega (arith, c .before .fresh-base .ensures, c .fresh-count .ensures, fresh-inside _ (c .before .before .before .before .before .before .before .before .before .before .before .before .pre .0))
 
--- src/trailer.rt:120:22
 fresh-from-requires : tie.Need-fresh-from-requires
 fresh-from-requires c κs = search needs
 
--- src/trailer.rt:120:40
 mul-same-words : tie.Need-mul-same-words
 mul-same-words c = omega (arith, c .before .before .fresh-base .ensures, c .before .fresh-count .ensures, fresh-inside _ (c .before .before .before .before .before .before .before .before .before .before .before .before .before .pre .0))
 
--- src/trailer.rt:120:40
 sub-same-words : tie.Need-sub-same-words
 sub-same-words c = search needs
 
--- src/trailer.rt:120:40
 part-same-words-start : tie.Need-part-same-words-start
 part-same-words-start c = search needs
 
--- src/trailer.rt:120:40
 part-same-words-end : tie.Need-part-same-words-end
 part-same-words-end c = omega (arith, c .before .before .fresh-base .ensures, c .before .fresh-count .ensures, fresh-inside _ (c .before .before .before .before .before .before .before .before .before .before .before .before .before .pre .0))
 
--- src/trailer.rt:120:5
 same-words-requires : tie.Need-same-words-requires
 unfolding freshCount
 same-words-requires c κs =
     rw (fresh-part _ _ _ (c .before .before .before .before .before .before .before .before .before .before .before .before .before .before .pre .0) (c .before .before .before .fresh-base .ensures) (c .before .before .fresh-count .ensures), length-freshList) (omega (arith, rw (c .before .before .before .before .before .before .trailer-word3 .ensures) at (c .before .before .before .before .if3 .left), c .before .fresh-from .ensures, trailed _ (c .before .before .before .before .before .before .before .before .before .before .before .before .before .before .pre .1)))
 
--- src/trailer.rt:105:1
 returns-4 : tie.Need-returns-4
 unfolding size freshCount
 returns-4 c =

@@ -1,61 +1,45 @@
 -- `snapshot::trailer::trailer_ok` meets its contract: each test in turn.
 -- Assumes nothing.
-use mathlib.Core.Path.{_≡_, refl, sym, ap, _∙_}
-use native.Mathlib.Omega.{arith}
-use Rattle.snapshot.proofs.Trailers.{and-yes, and-no, trailed}
+use mathlib.Core.Path.{sym, _∙_}
+use Rattle.snapshot.proofs.Trailers.{and-yes, and-no}
 use borrow.Author.Tests.{le-leb, lt-leb, eq-eqb, ne-eqb}
 use Rattle.rules.specs.Check.{among}
 use Rattle.rules.specs.Snapshot.{trailerOk}
 use borrow.Author.Needs.{needs}
 use Rattle.snapshot.proofs.trailer.trailer_ok.Statement.{statement}
 use Rattle.snapshot.proofs.trailer.trailer_ok.Tie as tie
-use Rattle.snapshot.proofs.trailer.trailer_ok.Reads as reads
-use Rattle.snapshot.proofs.trailer.trailer_ok.Lts as lts
-use Rattle.snapshot.proofs.layout.file_length.Reads as file-length-reads
-use Rattle.snapshot.proofs.layout.index.Reads as index-reads
-use Rattle.snapshot.proofs.trailer.trailer_word.Reads as trailer-word-reads
 
--- src/trailer.rt:58:9
 returns : tie.Need-returns
 unfolding trailerOk
 returns c = sym (and-no _ _ (lt-leb _ _ (c .if1 .taken)))
 
--- src/trailer.rt:60:9
 trailer-word-requires : tie.Need-trailer-word-requires
 trailer-word-requires c κs = search needs
 
--- src/trailer.rt:61:9
 trailer-word-requires-2 : tie.Need-trailer-word-requires-2
 trailer-word-requires-2 c κs = search needs
 
--- src/trailer.rt:62:9
 trailer-word-requires-3 : tie.Need-trailer-word-requires-3
 trailer-word-requires-3 c κs = search needs
 
--- src/trailer.rt:63:9
 trailer-word-requires-4 : tie.Need-trailer-word-requires-4
 trailer-word-requires-4 c κs = search needs
 
--- src/trailer.rt:64:8
 cast-if2 : tie.Need-cast-if2
 cast-if2 c = search needs
 
--- src/trailer.rt:64:22
 file-length-requires : tie.Need-file-length-requires
 file-length-requires c κs = search needs
 
--- src/trailer.rt:65:9
 returns-2 : tie.Need-returns-2
 unfolding trailerOk
 returns-2 c =
     let e = rw (c .before .before .trailer-word4 .ensures, c .before .file-length .ensures, c .before .before .before .before .before .trailer-word .ensures, c .before .before .before .before .trailer-word2 .ensures, c .before .before .before .trailer-word3 .ensures) at (c .if2 .taken) in
     sym (and-yes _ _ (le-leb _ _ (c .before .before .before .before .before .before .if1 .left)) ∙ and-no _ _ (ne-eqb _ _ e))
 
--- src/trailer.rt:67:21
 index-requires : tie.Need-index-requires
 index-requires c κs = search needs
 
--- src/trailer.rt:68:9
 returns-3 : tie.Need-returns-3
 unfolding trailerOk
 returns-3 c =
@@ -63,11 +47,9 @@ returns-3 c =
     let l = rw (c .before .index .ensures, c .before .before .before .before .trailer-word4 .ensures) at (c .if3 .taken) in
     sym (and-yes _ _ (le-leb _ _ (c .before .before .before .before .before .before .before .before .if1 .left)) ∙ and-yes _ _ (eq-eqb _ _ e) ∙ and-no _ _ (lt-leb _ _ l))
 
--- src/trailer.rt:70:8
 index-requires-2 : tie.Need-index-requires-2
 index-requires-2 c κs = search needs
 
--- src/trailer.rt:71:9
 returns-4 : tie.Need-returns-4
 unfolding trailerOk among
 returns-4 c =
@@ -76,11 +58,9 @@ returns-4 c =
     let m = rw (c .before .index2 .ensures, c .before .before .before .before .before .before .before .before .before .trailer-word .ensures) at (c .if4 .taken) in
     sym (and-yes _ _ (le-leb _ _ (c .before .before .before .before .before .before .before .before .before .before .if1 .left)) ∙ and-yes _ _ (eq-eqb _ _ e) ∙ and-yes _ _ (le-leb _ _ l) ∙ and-no _ _ (and-no _ _ (lt-leb _ _ m)))
 
--- src/trailer.rt:73:30
 index-requires-3 : tie.Need-index-requires-3
 index-requires-3 c κs = search needs
 
--- src/trailer.rt:74:9
 returns-5 : tie.Need-returns-5
 unfolding trailerOk among
 returns-5 c =
@@ -90,11 +70,9 @@ returns-5 c =
     let n = rw (c .before .index3 .ensures, c .before .before .before .before .before .before .before .before .before .before .before .trailer-word .ensures) at (c .if5 .taken) in
     sym (and-yes _ _ (le-leb _ _ (c .before .before .before .before .before .before .before .before .before .before .before .before .if1 .left)) ∙ and-yes _ _ (eq-eqb _ _ e) ∙ and-yes _ _ (le-leb _ _ l) ∙ and-no _ _ (and-yes _ _ (le-leb _ _ m) ∙ lt-leb _ _ n))
 
--- src/trailer.rt:76:12
 trailer-word-requires-5 : tie.Need-trailer-word-requires-5
 trailer-word-requires-5 c κs = search needs
 
--- src/trailer.rt:77:9
 returns-6 : tie.Need-returns-6
 unfolding trailerOk among
 returns-6 c =
@@ -105,11 +83,9 @@ returns-6 c =
     let w = rw (c .before .trailer-word5 .ensures) at (c .if6 .taken) in
     sym (and-yes _ _ (le-leb _ _ (c .before .before .before .before .before .before .before .before .before .before .before .before .before .before .if1 .left)) ∙ and-yes _ _ (eq-eqb _ _ e) ∙ and-yes _ _ (le-leb _ _ l) ∙ and-yes _ _ (and-yes _ _ (le-leb _ _ m) ∙ le-leb _ _ n) ∙ and-no _ _ (lt-leb _ _ w))
 
--- src/trailer.rt:79:5
 trailer-word-requires-6 : tie.Need-trailer-word-requires-6
 trailer-word-requires-6 c κs = search needs
 
--- src/trailer.rt:54:1
 returns-7 : tie.Need-returns-7
 unfolding trailerOk among
 returns-7 c =

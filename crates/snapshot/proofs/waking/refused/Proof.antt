@@ -3,15 +3,10 @@
 use borrow.Author.Needs.{needs}
 use Rattle.snapshot.proofs.waking.refused.Statement.{statement}
 use Rattle.snapshot.proofs.waking.refused.Tie as tie
-use Rattle.snapshot.proofs.waking.refused.Reads as reads
-use Rattle.snapshot.proofs.waking.refused.Lts as lts
-use Rattle.snapshot.proofs.waking.blank_state.Reads as blank-state-reads
 
--- src/waking.rt:55:9
 blank-state-requires : tie.Need-blank-state-requires
 blank-state-requires c κs = search needs
 
--- src/waking.rt:52:1
 returns : tie.Need-returns
 returns c = rw (c .blank-state .ensures)
 

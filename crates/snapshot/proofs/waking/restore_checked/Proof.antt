@@ -1,125 +1,87 @@
 -- `snapshot::waking::restore_checked` meets its contract: each refusal in its place, then memory is copied and its fresh words are supplied.
 -- Assumes nothing.
-use Prim.Native.Nat.{_+_, _≤_}
-use mathlib.Core.Path.{_≡_, refl, sym, ap, _∙_}
+use mathlib.Core.Path.{_≡_, sym, ap, _∙_}
 use native.Mathlib.Omega.{arith}
 use borrow.Author.Tests.{not-true, not-false}
 use lib.ListN.{length}
-use Rattle.base.specs.Test.{Ok}
 use Rattle.base.proofs.Bool.{test-true, true-ok}
-use Rattle.rules.specs.Snapshot.{frozenIn, frozenOk, memoryIn, sameProgram, trailerOk}
+use Rattle.rules.specs.Snapshot.{memoryIn}
 use Rattle.rules.specs.Start.{refreshed}
-use Rattle.rules.specs.Table.{freshCount}
 use Rattle.snapshot.proofs.Trailers.{trailed}
 use Rattle.snapshot.proofs.Wakings.{frozen-few, frozen-own, refuses-frozen, refuses-lending, refuses-program, refuses-supply, refuses-trailer, wakes}
 use borrow.Author.Needs.{needs}
 use Rattle.snapshot.proofs.waking.restore_checked.Statement.{statement}
 use Rattle.snapshot.proofs.waking.restore_checked.Tie as tie
-use Rattle.snapshot.proofs.waking.restore_checked.Reads as reads
-use Rattle.snapshot.proofs.waking.restore_checked.Lts as lts
-use Rattle.snapshot.proofs.copy.read_words.Reads as read-words-reads
-use Rattle.snapshot.proofs.fresh.supply.Reads as supply-reads
-use Rattle.snapshot.proofs.frozen.frozen_ok.Reads as frozen-ok-reads
-use Rattle.snapshot.proofs.frozen.frozen_state.Reads as frozen-state-reads
-use Rattle.snapshot.proofs.layout.fresh_count.Reads as fresh-count-reads
-use Rattle.snapshot.proofs.layout.index.Reads as index-reads
-use Rattle.snapshot.proofs.trailer.memory_from.Reads as memory-from-reads
-use Rattle.snapshot.proofs.trailer.same_program.Reads as same-program-reads
-use Rattle.snapshot.proofs.trailer.trailer_ok.Reads as trailer-ok-reads
-use Rattle.snapshot.proofs.trailer.trailer_word.Reads as trailer-word-reads
-use Rattle.snapshot.proofs.waking.refused.Reads as refused-reads
 
--- src/waking.rt:71:9
 trailer-ok-requires : tie.Need-trailer-ok-requires
 trailer-ok-requires c κs = search needs
 
--- src/waking.rt:72:9
 refused-requires : tie.Need-refused-requires
 refused-requires c κs = search needs
 
--- src/waking.rt:72:9
 returns : tie.Need-returns
 returns c = refuses-trailer _ _ _ _ _ _ (test-true _ (c .before .before .before .before .before .before .before .pre)) (sym (c .before .before .trailer-ok .ensures) ∙ not-true _ (c .before .if1 .taken)) (c .refused .ensures)
 
--- src/waking.rt:74:9
 same-program-requires : tie.Need-same-program-requires
 same-program-requires c κs = (c .before .before .before .before .before .before .pre, true-ok _ (sym (c .before .trailer-ok .ensures) ∙ not-false _ (c .if1 .left)))
 
--- src/waking.rt:75:9
 refused-requires-2 : tie.Need-refused-requires-2
 refused-requires-2 c κs = search needs
 
--- src/waking.rt:75:9
 returns-2 : tie.Need-returns-2
 returns-2 c = refuses-program _ _ _ _ _ _ (test-true _ (c .before .before .before .before .before .before .before .before .before .pre)) (sym (c .before .before .before .before .trailer-ok .ensures) ∙ not-false _ (c .before .before .before .if1 .left)) (sym (c .before .before .same-program .ensures) ∙ not-true _ (c .before .if2 .taken)) (c .refused2 .ensures)
 
--- src/waking.rt:77:9
 frozen-ok-requires : tie.Need-frozen-ok-requires
 frozen-ok-requires c κs = (c .before .before .before .before .before .before .before .before .pre, true-ok _ (sym (c .before .before .before .trailer-ok .ensures) ∙ not-false _ (c .before .before .if1 .left)))
 
--- src/waking.rt:78:9
 refused-requires-3 : tie.Need-refused-requires-3
 refused-requires-3 c κs = search needs
 
--- src/waking.rt:78:9
 returns-3 : tie.Need-returns-3
 returns-3 c = refuses-frozen _ _ _ _ _ _ (test-true _ (c .before .before .before .before .before .before .before .before .before .before .before .pre)) (sym (c .before .before .before .before .before .before .trailer-ok .ensures) ∙ not-false _ (c .before .before .before .before .before .if1 .left)) (sym (c .before .before .before .before .same-program .ensures) ∙ not-false _ (c .before .before .before .if2 .left)) (sym (c .before .before .frozen-ok .ensures) ∙ not-true _ (c .before .if3 .taken)) (c .refused3 .ensures)
 
--- src/waking.rt:80:23
 fresh-count-requires : tie.Need-fresh-count-requires
 fresh-count-requires c κs = c .before .before .before .before .before .before .before .before .before .before .pre
 
--- src/waking.rt:81:9
 refused-requires-4 : tie.Need-refused-requires-4
 refused-requires-4 c κs = search needs
 
--- src/waking.rt:81:9
 returns-4 : tie.Need-returns-4
 returns-4 c = refuses-supply _ _ _ _ _ _ (test-true _ (c .before .before .before .before .before .before .before .before .before .before .before .before .before .pre)) (sym (c .before .before .before .before .before .before .before .before .trailer-ok .ensures) ∙ not-false _ (c .before .before .before .before .before .before .before .if1 .left)) (sym (c .before .before .before .before .before .before .same-program .ensures) ∙ not-false _ (c .before .before .before .before .before .if2 .left)) (sym (c .before .before .before .before .frozen-ok .ensures) ∙ not-false _ (c .before .before .before .if3 .left)) (rw (c .before .before .fresh-count .ensures) at (c .before .if4 .taken)) (c .refused4 .ensures)
 
--- src/waking.rt:83:30
 trailer-word-requires : tie.Need-trailer-word-requires
 trailer-word-requires c κs =
     let t = trailed _ (true-ok _ (sym (c .before .before .before .before .before .before .before .trailer-ok .ensures) ∙ not-false _ (c .before .before .before .before .before .before .if1 .left))) in
     (omega arith, omega arith)
 
--- src/waking.rt:83:24
 index-requires : tie.Need-index-requires
 index-requires c κs = search needs
 
--- src/waking.rt:84:9
 refused-requires-5 : tie.Need-refused-requires-5
 refused-requires-5 c κs = search needs
 
--- src/waking.rt:84:9
 returns-5 : tie.Need-returns-5
 returns-5 c = refuses-lending _ _ _ _ _ _ (test-true _ (c .before .before .before .before .before .before .before .before .before .before .before .before .before .before .before .before .pre)) (sym (c .before .before .before .before .before .before .before .before .before .before .before .trailer-ok .ensures) ∙ not-false _ (c .before .before .before .before .before .before .before .before .before .before .if1 .left)) (sym (c .before .before .before .before .before .before .before .before .before .same-program .ensures) ∙ not-false _ (c .before .before .before .before .before .before .before .before .if2 .left)) (sym (c .before .before .before .before .before .before .before .frozen-ok .ensures) ∙ not-false _ (c .before .before .before .before .before .before .if3 .left)) (c .before .before .before .before .if4 .left ∙ c .before .before .before .before .before .fresh-count .ensures) (rw (c .before .before .index .ensures, c .before .before .before .trailer-word .ensures) at (c .before .if5 .taken)) (c .refused5 .ensures)
 
--- src/waking.rt:86:22
 memory-from-requires : tie.Need-memory-from-requires
 memory-from-requires c κs = true-ok _ (sym (c .before .before .before .before .before .before .before .before .before .before .trailer-ok .ensures) ∙ not-false _ (c .before .before .before .before .before .before .before .before .before .if1 .left))
 
--- src/waking.rt:86:5
 read-words-requires : tie.Need-read-words-requires
 read-words-requires c κs =
     let t = trailed _ (true-ok _ (sym (c .before .before .before .before .before .before .before .before .before .before .before .before .trailer-ok .ensures) ∙ not-false _ (c .before .before .before .before .before .before .before .before .before .before .before .if1 .left))) in
     omega (arith, c .before .memory-from .ensures, c .before .before .if5 .left, c .before .before .before .index .ensures, c .before .before .before .before .trailer-word .ensures)
 
--- src/waking.rt:87:5
 supply-requires : tie.Need-supply-requires
 supply-requires c κs =
     let own = frozen-own _ _ (true-ok _ (sym (c .before .before .before .before .before .before .before .before .before .before .before .before .frozen-ok .ensures) ∙ not-false _ (c .before .before .before .before .before .before .before .before .before .before .before .if3 .left))) in
     (c .before .before .before .before .before .before .before .before .before .before .before .before .before .before .before .before .before .before .before .before .before .pre, omega (arith, c .before .before .before .read-words .kept .1 .1 .0, c .before .before .before .before .before .before .if5 .left, c .before .before .before .before .before .before .before .index .ensures, c .before .before .before .before .before .before .before .before .trailer-word .ensures), c .before .before .before .before .before .before .before .before .before .if4 .left ∙ c .before .before .before .before .before .before .before .before .before .before .fresh-count .ensures)
 
--- src/waking.rt:88:9
 frozen-state-requires : tie.Need-frozen-state-requires
 frozen-state-requires c κs = (true-ok _ (sym (c .before .before .before .before .before .before .before .before .before .before .before .before .before .before .before .before .before .before .before .trailer-ok .ensures) ∙ not-false _ (c .before .before .before .before .before .before .before .before .before .before .before .before .before .before .before .before .before .before .if1 .left)), frozen-few _ _ (true-ok _ (sym (c .before .before .before .before .before .before .before .before .before .before .before .before .before .before .before .frozen-ok .ensures) ∙ not-false _ (c .before .before .before .before .before .before .before .before .before .before .before .before .before .before .if3 .left))))
 
--- src/waking.rt:61:1
 same-length : tie.Need-same-length
 same-length c = search needs
 
--- src/waking.rt:61:1
 returns-6 : tie.Need-returns-6
 returns-6 c =
     let m : length (c .before .before .before .before .before .before .before .before .before .before .before .before .before .before .before .before .before .before .before .before .before .before .before .before .before .args .memory .now) ≡ memoryIn (c .before .before .before .before .before .before .before .before .before .before .before .before .before .before .before .before .before .before .before .before .before .before .before .before .before .args .file .now) = c .before .before .before .before .before .before .before .before .before .before .if5 .left ∙ c .before .before .before .before .before .before .before .before .before .before .before .index .ensures ∙ c .before .before .before .before .before .before .before .before .before .before .before .before .trailer-word .ensures in

@@ -1,6 +1,6 @@
 -- `snapshot::writing::trailer_words` meets its contract: word by word.
 -- Assumes nothing.
-use mathlib.Core.Path.{_≡_, refl, sym, ap, _∙_}
+use mathlib.Core.Path.{_≡_}
 use native.Mathlib.Omega.{arith}
 use lib.ListN.{length}
 use Rattle.rules.specs.Table.{freshCount, size}
@@ -9,48 +9,35 @@ use Rattle.snapshot.proofs.Writings.{measured}
 use borrow.Author.Needs.{needs}
 use Rattle.snapshot.proofs.writing.trailer_words.Statement.{statement}
 use Rattle.snapshot.proofs.writing.trailer_words.Tie as tie
-use Rattle.snapshot.proofs.writing.trailer_words.Reads as reads
-use Rattle.snapshot.proofs.writing.trailer_words.Lts as lts
-use Rattle.snapshot.proofs.layout.file_length.Reads as file-length-reads
-use Rattle.snapshot.proofs.writing.bit.Reads as bit-reads
 
--- src/writing.rt:38:13
 cast-m : tie.Need-cast-m
 cast-m c =
     let full : length (c .before .before .args .state .links) ≡ 256 = search needs in
     omega (arith, measured (c .before .before .args .table .now) (c .before .before .args .memory .now) (c .before .before .args .state) full (c .before .before .pre .1))
 
--- src/writing.rt:41:9
 shared-slice-read-t8 : tie.Need-shared-slice-read-t8
 shared-slice-read-t8 c = omega (arith, sizes _ (c .before .before .before .pre .0))
 
--- src/writing.rt:44:9
 shared-slice-read-t10 : tie.Need-shared-slice-read-t10
 shared-slice-read-t10 c = omega (arith, sizes _ (c .before .before .before .before .pre .0))
 
--- src/writing.rt:46:9
 bit-requires : tie.Need-bit-requires
 bit-requires c κs = search needs
 
--- src/writing.rt:54:9
 bit-requires-2 : tie.Need-bit-requires-2
 bit-requires-2 c κs = search needs
 
--- src/writing.rt:55:37
 shared-slice-read-file-length : tie.Need-shared-slice-read-file-length
 shared-slice-read-file-length c = omega (arith, sizes _ (c .before .before .before .before .before .before .before .pre .0))
 
--- src/writing.rt:55:9
 file-length-requires : tie.Need-file-length-requires
 file-length-requires c κs = search needs
 
--- src/writing.rt:55:9
 cast-t16 : tie.Need-cast-t16
 cast-t16 c =
     let full : length (c .before .before .before .before .before .before .before .before .args .state .links) ≡ 256 = search needs in
     omega (arith, c .file-length .ensures, measured (c .before .before .before .before .before .before .before .before .args .table .now) (c .before .before .before .before .before .before .before .before .args .memory .now) (c .before .before .before .before .before .before .before .before .args .state) full (c .before .before .before .before .before .before .before .before .pre .1), sizes _ (c .before .before .before .before .before .before .before .before .pre .0))
 
--- src/writing.rt:34:1
 returns : tie.Need-returns
 unfolding size freshCount
 returns c =

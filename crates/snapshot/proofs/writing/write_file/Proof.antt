@@ -1,7 +1,6 @@
 -- `snapshot::writing::write_file` meets its contract: memory, links, fresh addresses and trailer, one behind another.
 -- Assumes nothing.
-use Prim.Native.Nat.{_+_, _*_, _≤_}
-use mathlib.Core.Path.{_≡_, refl, sym, ap, _∙_}
+use mathlib.Core.Path.{_≡_, refl, sym}
 use native.Mathlib.Omega.{arith}
 use lib.ListN.{length}
 use lib.Seq.{length-take-le}
@@ -37,111 +36,87 @@ full-links : (c : lts.Start (
     → length (c .args .state .links) ≡ 256
 full-links c = search needs
 
--- src/writing.rt:64:5
 write-memory-requires : tie.Need-write-memory-requires
 write-memory-requires c κs =
     let full : length (c .before .before .before .before .args .state .links) ≡ 256 = search needs in
     let d = measured (c .before .before .before .before .args .table .now) (c .before .before .before .before .args .memory .now) (c .before .before .before .before .args .state) full (c .before .before .before .before .pre .1) in
     (c .before .before .before .before .pre .0, d .own, omega (arith, c .before .before .before .before .pre .2))
 
--- src/writing.rt:65:14
 mul-at : tie.Need-mul-at
 mul-at c = search needs
 
--- src/writing.rt:66:9
 index-requires : tie.Need-index-requires
 index-requires c κs = search needs
 
--- src/writing.rt:68:27
 array-share-prefix-links : tie.Need-array-share-prefix-links
 array-share-prefix-links c =
     let full : length (c .before .before .before .before .before .before .before .before .before .before .args .state .links) ≡ 256 = search needs in
     let d = measured (c .before .before .before .before .before .before .before .before .before .before .args .table .now) (c .before .before .before .before .before .before .before .before .before .before .args .memory .now) (c .before .before .before .before .before .before .before .before .before .before .args .state) full (c .before .before .before .before .before .before .before .before .before .before .pre .1) in
     omega (arith, c .before .before .index .ensures)
 
--- src/writing.rt:68:27
 slice-aggregate-write-words : tie.Need-slice-aggregate-write-words
 slice-aggregate-write-words c =
     let full : length (c .before .before .before .before .before .before .before .before .before .before .before .args .state .links) ≡ 256 = search needs in
     let d = measured (c .before .before .before .before .before .before .before .before .before .before .before .args .table .now) (c .before .before .before .before .before .before .before .before .before .before .before .args .memory .now) (c .before .before .before .before .before .before .before .before .before .before .before .args .state) full (c .before .before .before .before .before .before .before .before .before .before .before .pre .1) in
     sym (length-take-le (c .before .before .before .index .result) (c .before .before .before .before .before .before .before .before .before .before .before .args .state .links) (omega (arith, c .before .before .before .index .ensures)))
 
--- src/writing.rt:68:5
 write-words-requires : tie.Need-write-words-requires
 write-words-requires c κs =
     let full : length (c .before .before .before .before .before .before .before .before .before .before .before .args .state .links) ≡ 256 = search needs in
     let d = measured (c .before .before .before .before .before .before .before .before .before .before .before .args .table .now) (c .before .before .before .before .before .before .before .before .before .before .before .args .memory .now) (c .before .before .before .before .before .before .before .before .before .before .before .args .state) full (c .before .before .before .before .before .before .before .before .before .before .before .pre .1) in
     omega (arith, length-take-le (c .before .before .before .index .result) (c .before .before .before .before .before .before .before .before .before .before .before .args .state .links) (omega (arith, c .before .before .before .index .ensures)), c .before .before .before .index .ensures, c .before .before .before .before .before .before .write-memory .kept .0, c .before .before .before .before .before .before .before .before .before .before .before .pre .2)
 
--- src/writing.rt:69:9
 fresh-base-requires : tie.Need-fresh-base-requires
 fresh-base-requires c κs = search needs
 
--- src/writing.rt:70:9
 fresh-count-requires : tie.Need-fresh-count-requires
 fresh-count-requires c κs = search needs
 
--- src/writing.rt:71:14
 add-to : tie.Need-add-to
 add-to c = omega (arith, c .before .fresh-base .ensures, c .fresh-count .ensures, fresh-inside _ (c .before .before .before .before .before .before .before .before .before .before .before .before .before .before .before .before .pre .0))
 
--- src/writing.rt:72:28
 mul-write-words : tie.Need-mul-write-words
 mul-write-words c = search needs
 
--- src/writing.rt:72:23
 add-write-words : tie.Need-add-write-words
 add-write-words c = search needs
 
--- src/writing.rt:72:38
 mul-write-words-2 : tie.Need-mul-write-words-2
 mul-write-words-2 c = omega (arith, c .before .before .fresh-base .ensures, c .before .fresh-count .ensures, fresh-inside _ (c .before .before .before .before .before .before .before .before .before .before .before .before .before .before .before .before .before .pre .0))
 
--- src/writing.rt:72:38
 sub-write-words : tie.Need-sub-write-words
 sub-write-words c = search needs
 
--- src/writing.rt:72:38
 part-write-words-start : tie.Need-part-write-words-start
 part-write-words-start c = search needs
 
--- src/writing.rt:72:38
 part-write-words-end : tie.Need-part-write-words-end
 part-write-words-end c = omega (arith, c .before .before .fresh-base .ensures, c .before .fresh-count .ensures, fresh-inside _ (c .before .before .before .before .before .before .before .before .before .before .before .before .before .before .before .before .before .pre .0))
 
--- src/writing.rt:72:5
 write-words-requires-2 : tie.Need-write-words-requires-2
 write-words-requires-2 c κs = search needs
 
--- src/writing.rt:73:17
 trailer-words-requires : tie.Need-trailer-words-requires
 trailer-words-requires c κs = search needs
 
--- src/writing.rt:74:36
 add-write-words-2 : tie.Need-add-write-words-2
 add-write-words-2 c = search needs
 
--- src/writing.rt:74:28
 mul-write-words-3 : tie.Need-mul-write-words-3
 mul-write-words-3 c = search needs
 
--- src/writing.rt:74:23
 add-write-words-3 : tie.Need-add-write-words-3
 add-write-words-3 c = search needs
 
--- src/writing.rt:74:44
 slice-aggregate-write-words-2 : tie.Need-slice-aggregate-write-words-2
 slice-aggregate-write-words-2 c = search needs
 
--- src/writing.rt:74:5
 write-words-requires-3 : tie.Need-write-words-requires-3
 write-words-requires-3 c κs = search needs
 
--- src/writing.rt:60:1
 same-length : tie.Need-same-length
 same-length c = search needs
 
--- src/writing.rt:60:1
 returns : tie.Need-returns
 returns c =
     let full = full-links (c .before .before .before .before .before .before .before .before .before .before .before .before .before .before .before .before .before .before .before .before .before .before .before .before .before .before .before) in
