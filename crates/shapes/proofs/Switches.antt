@@ -1,6 +1,6 @@
 -- Laws of the values of a switch's IFFs, in the terms of the code: forward for one value, backward for all.
 -- Assumes nothing.
-use Prim.Native.Nat.{ℕ, zero, suc, _+_, _-_, _*_, _<_, _≤_}
+use Prim.Native.Nat.{ℕ, zero, suc, _+_, _-_, _*_, _%_, _<_, _≤_}
 use mathlib.Core.Path.{_≡_, refl, sym, ap, subst, _∙_}
 use mathlib.Core.Bool.{Bool, true, false, not}
 use mathlib.Core.List.{List, [], _∷_}
@@ -75,58 +75,27 @@ unlike-more t v q k = rw (add-one q) refl
 module _ (t ms : List ℕ) (q k : ℕ) (m : Marked t ms (q + 1) k) where
   pub mark-unknown : (getD t (8 + 8 * q + 1) 0 ≡ 1 → ⊥) → Marked t ms q (suc k)
   mark-unknown h =
-      record {
-        room = m .room;
-        small = λ v l. m .small v l ∙ sym (unlike-more t v q k ∙ and-yes _ _ (sym (differs-unknown t q v h)));
-      }
+      record { room = m .room; clear = λ v z. unlike-more t v q k ∙ and-yes _ _ (sym (differs-unknown t q v h)) ∙ m .clear v z }
 
-  pub mark-large : getD t (8 + 8 * q + 1) 0 ≡ 1 → 1024 ≤ getD t (8 + 8 * q + 3) 0 → Marked t ms q (suc k)
-  mark-large h g =
-      record {
-        room = m .room;
-        small = λ v l.
-            m .small v l ∙ sym (unlike-more t v q k ∙ and-yes _ _ (sym (differs-known t q v h) ∙ not-no _ (ne-eqb (getD t (8 + 8 * q + 3) 0) v (λ e. omega (arith, e, g, l)))));
-      }
-
-  pub mark-small : (i : ℕ) → i ≡ getD t (8 + 8 * q + 3) 0 → getD t (8 + 8 * q + 1) 0 ≡ 1 → i < 1024 → Marked t (set ms i 1) q (suc k)
-  mark-small i e h g =
+  pub mark-known : (i : ℕ) → i ≡ getD t (8 + 8 * q + 3) 0 % 1024 → i < 1024 → getD t (8 + 8 * q + 1) 0 ≡ 1 → Marked t (set ms i 1) q (suc k)
+  mark-known i e g h =
       record {
         room = rw (length-set ms i 1) (m .room);
-        small = λ v l. ⊎-elim (same v) (other v l) (same-or-not v);
+        clear = λ v z.
+            let d : v % 1024 ≢ i = other v z in
+            unlike-more t v q k ∙ and-yes _ _ (sym (differs-known t q v h) ∙ not-no _ (ne-eqb _ _ (λ w. d (sym (e ∙ ap (λ (x : ℕ). x % 1024) w)))))
+            ∙ m .clear v (sym (getD-set-other ms i (v % 1024) 1 0 d) ∙ z);
       }
     where
-      same-or-not : (v : ℕ) → (i ≡ v) ⊎ (i ≡ v → ⊥)
-      same-or-not v = go (eqb i v) refl
-        where
-          go : (b : Bool) → eqb i v ≡ b → (i ≡ v) ⊎ (i ≡ v → ⊥)
-          go true z = inl (eqb-true i v z)
-          go false z = inr (eqb-false i v z)
+      other : (v : ℕ) → getD (set ms i 1) (v % 1024) 0 ≡ 0 → v % 1024 ≢ i
+      other v z w =
+          let r : getD (set ms i 1) i 0 ≡ 1 = getD-set-same ms i 1 0 (omega (arith, m .room, g)) in
+          let n : getD (set ms i 1) i 0 ≡ 0 = rw w at z in
+          omega (arith, r, n)
 
-      same : (v : ℕ) → i ≡ v → eqb (getD (set ms i 1) v 0) 0 ≡ unlike t v q (suc k)
-      same v z =
-          let r : getD (set ms v 1) v 0 ≡ 1 = getD-set-same ms v 1 0 (omega (arith, m .room, g, z)) in
-          rw (z, r) (sym (unlike-more t v q k ∙ and-no _ _ (sym (differs-known t q v h) ∙ not-yes _ (eq-eqb _ _ (sym e ∙ z)))))
-
-      other : (v : ℕ) → v < 1024 → (i ≡ v → ⊥) → eqb (getD (set ms i 1) v 0) 0 ≡ unlike t v q (suc k)
-      other v l z =
-          let d : v ≢ i = λ w. z (sym w) in
-          rw (getD-set-other ms i v 1 0 d)
-          (m .small v l ∙ sym (unlike-more t v q k ∙ and-yes _ _ (sym (differs-known t q v h) ∙ not-no _ (ne-eqb _ _ (λ w. z (e ∙ w))))))
-
--- a list of zeros
-unfoldable pub zeros : List ℕ → Bool
-zeros [] = true
-zeros (x ∷ xs) = eqb x 0 and zeros xs
-
-zeros-at : (l : List ℕ) → Ok (zeros l) → (v : ℕ) → getD l v 0 ≡ 0
-unfolding zeros
-zeros-at [] h v = refl
-zeros-at (x ∷ xs) h zero = ok-eq x 0 (and-l _ _ h)
-zeros-at (x ∷ xs) h (suc v) = zeros-at xs (and-r _ _ h) v
-
-pub marked-start : (t ms : List ℕ) (q : ℕ) → 1024 ≤ length ms → Ok (zeros ms) → Marked t ms q 0
+pub marked-start : (t ms : List ℕ) (q : ℕ) → 1024 ≤ length ms → Marked t ms q 0
 unfolding unlike
-marked-start t ms q h z = record { room = h; small = λ v l. rw (zeros-at ms z v) refl }
+marked-start t ms q h = record { room = h; clear = λ v z. refl }
 
 -- all values, backward
 pub distinct-more : (t : List ℕ) (limit q k : ℕ) → freshAt t limit q k ≡ true → distinctIffs t limit (q + 1) k ≡ true

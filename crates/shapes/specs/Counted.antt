@@ -1,8 +1,8 @@
--- Lists in the terms of the code: the exits of a callee, the IFFs of a switch, one IFF of it, and the marks of small values.
+-- Lists in the terms of the code: the exits of a callee, the IFFs of a switch, one IFF of it, and the marks of values.
 -- Assumes nothing.
-use Prim.Native.Nat.{ℕ, suc, _+_, _<_, _≤_}
+use Prim.Native.Nat.{ℕ, suc, _+_, _%_, _≤_}
 use mathlib.Core.Path.{_≡_}
-use mathlib.Core.Bool.{Bool, not}
+use mathlib.Core.Bool.{Bool, true, not}
 use mathlib.Core.List.{List}
 use lib.Dec.{eqb, ltb}
 use lib.ListN.{length, getD}
@@ -31,7 +31,7 @@ differsAt t v q = not (valueKnown t q) or not (eqb (value t q) v)
 unfoldable pub freshAt : List ℕ → ℕ → ℕ → ℕ → Bool
 freshAt t limit q k = not (valueKnown t q) or (ltb (value t q) limit and unlike t (value t q) (suc q) k)
 
--- a value below 1,024 is marked exactly where an IFF of the k from place q on has it
+-- a value whose remainder by 1,024 is not marked is that of no IFF of the k from place q on
 pub record Marked (t marks : List ℕ) (q k : ℕ) : Type 0 where
   pub room : 1024 ≤ length marks
-  pub small : (v : ℕ) → v < 1024 → eqb (getD marks v 0) 0 ≡ unlike t v q k
+  pub clear : (v : ℕ) → getD marks (v % 1024) 0 ≡ 0 → unlike t v q k ≡ true

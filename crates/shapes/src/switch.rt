@@ -1,7 +1,7 @@
 // Switch lists: BSW has IFFs with distinct values below its limit, then ESW [S Shape rules].
 // A switch may be as long as the table, so values are not compared pair by pair: the IFFs are walked once, from the last to the first, and
-// each value below 1,024 is marked in an array of bytes. Only a larger value, which no table of 1,024 entries needs for a list without
-// holes, is compared with those after it.
+// each value's remainder by 1,024 is marked in an array of bytes. Only a value whose remainder is marked is compared with those after it,
+// which the consecutive values of a usual switch, small or large, never need.
 ghost use mathlib.Core.Path.{_≡_};
 ghost use mathlib.Core.Bool.{not};
 ghost use Prim.Native.Nat.{ℕ, suc, _+_, _*_, _≤_, _<_};
@@ -21,7 +21,7 @@ use entries::layout::index;
 use ops::class;
 use ops::format::VALUE_KIND;
 
-// Values below this are marked.
+// Values are marked by their remainder.
 const MARKS: usize = 1024;
 
 // How many IFFs stand from place p on.
@@ -65,7 +65,7 @@ fn unlike(table: &[u32], v: u32, p: usize, k: usize) -> bool
     true
 }
 
-// The value of the IFF at q is below the limit and unlike those of the k after it, whose small values are marked.
+// The value of the IFF at q is below the limit and unlike those of the k after it, whose remainders are marked.
 fn is_fresh(table: &[u32], marks: &[u8], limit: u32, q: usize, k: usize) -> bool
     requires { ⌜ (q + 1 + k ≤ 1024) × (8 + 8 * (q + 1 + k) ≤ length (now table)) × Marked (now table) (now marks) (q + 1) k ⌝ }
     ensures { λ r. ⌜ r ≡ freshAt (now (table .entry)) limit q k ⌝ }
@@ -77,14 +77,14 @@ fn is_fresh(table: &[u32], marks: &[u8], limit: u32, q: usize, k: usize) -> bool
     if limit <= v {
         return false;
     }
-    let i = index(v);
-    if i < MARKS {
-        return marks[i] == 0;
+    let i = index(v) % MARKS;
+    if marks[i] == 0 {
+        return true;
     }
     unlike(table, v, q + 1, k)
 }
 
-// The value of the IFF at q is marked, where it is small.
+// The value of the IFF at q is marked by its remainder.
 fn mark(table: &[u32], marks: &mut [u8], q: usize, k: usize)
     requires { ⌜ (q < 1024) × (8 + 8 * q + 7 < length (now table)) × Marked (now table) (now marks) (q + 1) k ⌝ }
     ensures { λ r. ⌜ Marked (now (table .entry)) (now (marks .exit)) q (suc k) ⌝ }
@@ -92,10 +92,8 @@ fn mark(table: &[u32], marks: &mut [u8], q: usize, k: usize)
     if table[HEADER + ENTRY * q + 1] != VALUE_KIND {
         return;
     }
-    let i = index(table[HEADER + ENTRY * q + 3]);
-    if i < MARKS {
-        marks[i] = 1;
-    }
+    let i = index(table[HEADER + ENTRY * q + 3]) % MARKS;
+    marks[i] = 1;
 }
 
 // The values of the k IFFs from place p on are below the limit, and distinct.

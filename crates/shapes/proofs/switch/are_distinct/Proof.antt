@@ -1,6 +1,6 @@
 -- `shapes::switch::are_distinct` meets its contract: each return rewrites with the tests that led there.
 -- Assumes nothing.
-use Rattle.shapes.proofs.Switches.{zeros, marked-start, marked-at, marked-back, distinct-start, distinct-front, distinct-back, distinct-end}
+use Rattle.shapes.proofs.Switches.{marked-start, marked-at, marked-back, distinct-start, distinct-front, distinct-back, distinct-end}
 use Rattle.base.specs.Test.{Ok}
 -- `shapes::switch::are_distinct` meets its contract: each return rewrites with the tests that led there.
 -- Assumes nothing.
@@ -30,8 +30,7 @@ abbrev μ-loop : tie.MeasureT-loop
 
 -- src/switch.rt:105:5
 loop-holds : tie.Need-loop-holds Inv-loop μ-loop
-unfolding zeros Ok _and_
-loop-holds c = (omega arith, refl, distinct-start _ _ _ _ 0, marked-start _ _ _ (omega arith) tt)
+loop-holds c = (omega arith, refl, distinct-start _ _ _ _ 0, marked-start _ _ _ (omega arith))
 
 -- src/switch.rt:106:22
 sub-q : tie.Need-sub-q Inv-loop μ-loop

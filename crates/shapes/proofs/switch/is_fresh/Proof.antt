@@ -1,11 +1,9 @@
--- `shapes::switch::is_fresh` meets its contract: each return rewrites with the tests that led there.
+-- `shapes::switch::is_fresh` meets its contract: an unmarked remainder tells that no IFF has the value, a marked one asks them all.
 -- Assumes nothing.
+use Prim.Native.Nat.{ℕ, _%_}
+use mathlib.Core.Path.{_≡_, sym, subst, _∙_}
+use lib.ListN.{getD}
 use Rattle.shapes.proofs.Switches.{fresh-unknown, fresh-past, fresh-known}
-use Rattle.base.specs.Test.{_and_, _or_, if}
-use borrow.Author.Tests.{eq-eqb, ne-eqb, lt-ltb, le-ltb, le-leb, lt-leb, not-true, not-false}
-use native.Mathlib.Omega.{arith}
-use mathlib.Core.Bool.{Bool, true, false, not}
-use mathlib.Core.Path.{_≡_, refl, sym, ap, _∙_}
 use borrow.Author.Needs.{needs}
 use Rattle.shapes.proofs.switch.is_fresh.Statement.{statement}
 use Rattle.shapes.proofs.switch.is_fresh.Tie as tie
@@ -14,77 +12,79 @@ use Rattle.shapes.proofs.switch.is_fresh.Lts as lts
 use Rattle.entries.proofs.layout.index.Reads as index-reads
 use Rattle.shapes.proofs.switch.unlike.Reads as unlike-reads
 
--- src/switch.rt:70:18
+-- src/switch.rt:73:23
 mul-if1 : tie.Need-mul-if1
 mul-if1 c = search needs
 
--- src/switch.rt:70:14
+-- src/switch.rt:73:14
 add-if1 : tie.Need-add-if1
 add-if1 c = search needs
 
--- src/switch.rt:70:14
+-- src/switch.rt:73:14
 add-if1-2 : tie.Need-add-if1-2
 add-if1-2 c = search needs
 
--- src/switch.rt:70:8
+-- src/switch.rt:73:8
 mul-if1-2 : tie.Need-mul-if1-2
 mul-if1-2 c = search needs
 
--- src/switch.rt:70:8
+-- src/switch.rt:73:8
 shared-slice-read-if1 : tie.Need-shared-slice-read-if1
 shared-slice-read-if1 c = search needs
 
--- src/switch.rt:71:9
+-- src/switch.rt:74:9
 returns : tie.Need-returns
 returns c = fresh-unknown (c .before .before .before .before .args .table .now) (c .before .before .before .before .args .q) (c .before .before .before .before .args .limit) (c .before .before .before .before .args .k) (c .if1 .taken)
 
--- src/switch.rt:73:23
+-- src/switch.rt:76:28
 mul-v : tie.Need-mul-v
 mul-v c = search needs
 
--- src/switch.rt:73:19
+-- src/switch.rt:76:19
 add-v : tie.Need-add-v
 add-v c = search needs
 
--- src/switch.rt:73:19
+-- src/switch.rt:76:19
 add-v-2 : tie.Need-add-v-2
 add-v-2 c = search needs
 
--- src/switch.rt:73:13
+-- src/switch.rt:76:13
 mul-v-2 : tie.Need-mul-v-2
 mul-v-2 c = search needs
 
--- src/switch.rt:73:13
+-- src/switch.rt:76:13
 shared-slice-read-v : tie.Need-shared-slice-read-v
 shared-slice-read-v c = search needs
 
--- src/switch.rt:75:9
+-- src/switch.rt:78:9
 returns-2 : tie.Need-returns-2
 returns-2 c = fresh-past (c .before .before .before .before .before .before .args .table .now) (c .before .before .before .before .before .before .args .q) (c .before .before .before .before .before .before .args .limit) (c .before .before .before .before .before .before .args .k) (c .before .before .if1 .left) (c .if2 .taken)
 
--- src/switch.rt:77:9
+-- src/switch.rt:80:13
 index-requires : tie.Need-index-requires
 index-requires c κs = search needs
 
--- src/switch.rt:79:16
-shared-slice-read-result : tie.Need-shared-slice-read-result
-shared-slice-read-result c = search needs
+-- src/switch.rt:81:8
+shared-slice-read-if3 : tie.Need-shared-slice-read-if3
+shared-slice-read-if3 c = search needs
 
--- src/switch.rt:79:9
+-- src/switch.rt:82:9
 returns-3 : tie.Need-returns-3
-returns-3 c = c .before .before .before .before .before .before .before .before .before .pre .2 .small (c .before .before .index .result) (c .before .if3 .taken) ∙ rw (c .before .before .index .ensures) (fresh-known (c .before .before .before .before .before .before .before .before .before .args .table .now) (c .before .before .before .before .before .before .before .before .before .args .q) (c .before .before .before .before .before .before .before .before .before .args .limit) (c .before .before .before .before .before .before .before .before .before .args .k) (c .before .before .before .before .before .if1 .left) (c .before .before .before .if2 .left))
+returns-3 c =
+    sym (c .before .before .before .before .before .before .before .before .before .pre .2 .clear _ (subst (λ (x : ℕ). getD (c .before .before .before .before .before .before .before .before .before .args .marks .now) (x % 1024) 0 ≡ 0) (c .before .before .index .ensures) (c .if3 .taken)))
+    ∙ fresh-known (c .before .before .before .before .before .before .before .before .before .args .table .now) (c .before .before .before .before .before .before .before .before .before .args .q) (c .before .before .before .before .before .before .before .before .before .args .limit) (c .before .before .before .before .before .before .before .before .before .args .k) (c .before .before .before .before .before .if1 .left) (c .before .before .before .if2 .left)
 
--- src/switch.rt:81:22
+-- src/switch.rt:84:22
 add-unlike : tie.Need-add-unlike
 add-unlike c = search needs
 
--- src/switch.rt:81:5
+-- src/switch.rt:84:5
 unlike-requires : tie.Need-unlike-requires
 unlike-requires c κs = search needs
 
--- src/switch.rt:66:1
+-- src/switch.rt:69:1
 returns-4 : tie.Need-returns-4
-returns-4 c = c .unlike .ensures ∙ fresh-known (c .before .before .before .before .before .before .before .before .before .args .table .now) (c .before .before .before .before .before .before .before .before .before .args .q) (c .before .before .before .before .before .before .before .before .before .args .limit) (c .before .before .before .before .before .before .before .before .before .args .k) (c .before .before .before .before .before .if1 .left) (c .before .before .before .if2 .left)
+returns-4 c = c .unlike .ensures ∙ fresh-known (c .before .before .before .before .before .before .before .before .before .before .args .table .now) (c .before .before .before .before .before .before .before .before .before .before .args .q) (c .before .before .before .before .before .before .before .before .before .before .args .limit) (c .before .before .before .before .before .before .before .before .before .before .args .k) (c .before .before .before .before .before .before .if1 .left) (c .before .before .before .before .if2 .left)
 
 pub is-fresh-spec : {M : Type 1} → statement M
 is-fresh-spec =
@@ -103,7 +103,7 @@ is-fresh-spec =
     shared-slice-read-v
     returns-2
     index-requires
-    shared-slice-read-result
+    shared-slice-read-if3
     returns-3
     add-unlike
     unlike-requires

@@ -1,11 +1,9 @@
--- `shapes::switch::mark` meets its contract: each return rewrites with the tests that led there.
+-- `shapes::switch::mark` meets its contract: a value that is not known marks nothing, another its remainder.
 -- Assumes nothing.
-use Rattle.shapes.proofs.Switches.{mark-unknown, mark-large, mark-small}
-use Rattle.base.specs.Test.{_and_, _or_, if}
-use borrow.Author.Tests.{eq-eqb, ne-eqb, lt-ltb, le-ltb, le-leb, lt-leb, not-true, not-false}
+use Prim.Native.Nat.{ℕ, _%_}
+use mathlib.Core.Path.{ap}
 use native.Mathlib.Omega.{arith}
-use mathlib.Core.Bool.{Bool, true, false, not}
-use mathlib.Core.Path.{_≡_, refl, sym, ap, _∙_}
+use Rattle.shapes.proofs.Switches.{mark-unknown, mark-known}
 use borrow.Author.Needs.{needs}
 use Rattle.shapes.proofs.switch.mark.Statement.{statement}
 use Rattle.shapes.proofs.switch.mark.Tie as tie
@@ -13,69 +11,67 @@ use Rattle.shapes.proofs.switch.mark.Reads as reads
 use Rattle.shapes.proofs.switch.mark.Lts as lts
 use Rattle.entries.proofs.layout.index.Reads as index-reads
 
--- src/switch.rt:89:18
+-- src/switch.rt:92:23
 mul-if1 : tie.Need-mul-if1
 mul-if1 c = search needs
 
--- src/switch.rt:89:14
+-- src/switch.rt:92:14
 add-if1 : tie.Need-add-if1
 add-if1 c = search needs
 
--- src/switch.rt:89:14
+-- src/switch.rt:92:14
 add-if1-2 : tie.Need-add-if1-2
 add-if1-2 c = search needs
 
--- src/switch.rt:89:8
+-- src/switch.rt:92:8
 mul-if1-2 : tie.Need-mul-if1-2
 mul-if1-2 c = search needs
 
--- src/switch.rt:89:8
+-- src/switch.rt:92:8
 shared-slice-read-if1 : tie.Need-shared-slice-read-if1
 shared-slice-read-if1 c = search needs
 
--- src/switch.rt:90:9
+-- src/switch.rt:93:9
 returns : tie.Need-returns
 returns c = mark-unknown (c .before .before .before .before .args .table .now) (c .before .before .before .before .args .marks .now) (c .before .before .before .before .args .q) (c .before .before .before .before .args .k) (c .before .before .before .before .pre .2) (c .if1 .taken)
 
--- src/switch.rt:92:29
+-- src/switch.rt:95:34
 mul-index : tie.Need-mul-index
 mul-index c = search needs
 
--- src/switch.rt:92:25
+-- src/switch.rt:95:25
 add-index : tie.Need-add-index
 add-index c = search needs
 
--- src/switch.rt:92:25
+-- src/switch.rt:95:25
 add-index-2 : tie.Need-add-index-2
 add-index-2 c = search needs
 
--- src/switch.rt:92:19
+-- src/switch.rt:95:19
 mul-index-2 : tie.Need-mul-index-2
 mul-index-2 c = search needs
 
--- src/switch.rt:92:19
+-- src/switch.rt:95:19
 shared-slice-read-index : tie.Need-shared-slice-read-index
 shared-slice-read-index c = search needs
 
--- src/switch.rt:92:9
+-- src/switch.rt:95:13
 index-requires : tie.Need-index-requires
 index-requires c κs = search needs
 
--- src/switch.rt:94:9
+-- src/switch.rt:96:5
 slice-write-marks : tie.Need-slice-write-marks
 slice-write-marks c = search needs
 
--- src/switch.rt:85:1
+-- src/switch.rt:88:1
 same-length : tie.Need-same-length
 same-length c = search needs
 
--- src/switch.rt:85:1
+-- src/switch.rt:88:1
 returns-2 : tie.Need-returns-2
-returns-2 c = mark-small (c .before .before .before .before .before .before .before .args .table .now) (c .before .before .before .before .before .before .before .args .marks .now) (c .before .before .before .before .before .before .before .args .q) (c .before .before .before .before .before .before .before .args .k) (c .before .before .before .before .before .before .before .pre .2) (c .before .index .result) (c .before .index .ensures) (c .before .before .before .if1 .left) (c .if2 .taken)
-
--- src/switch.rt:85:1
-returns-3 : tie.Need-returns-3
-returns-3 c = mark-large (c .before .before .before .before .before .before .before .args .table .now) (c .before .before .before .before .before .before .before .args .marks .now) (c .before .before .before .before .before .before .before .args .q) (c .before .before .before .before .before .before .before .args .k) (c .before .before .before .before .before .before .before .pre .2) (c .before .before .before .if1 .left) (omega arith)
+returns-2 c =
+    mark-known (c .before .before .before .before .before .before .args .table .now) (c .before .before .before .before .before .before .args .marks .now) (c .before .before .before .before .before .before .args .q) (c .before .before .before .before .before .before .args .k) (c .before .before .before .before .before .before .pre .2) (c .index .result % 1024)
+    (ap (λ (x : ℕ). x % 1024) (c .index .ensures)) (omega arith) (c .before .before .if1 .left)
 
 pub mark-spec : {M : Type 1} → statement M
 mark-spec =
@@ -95,5 +91,4 @@ mark-spec =
     index-requires
     slice-write-marks
     same-length
-    returns-2
-    returns-3)
+    returns-2)

@@ -1,0 +1,55 @@
+-- A state that a host lends as words: XL XR XS WA WB WC IA, the flag, the place, whether the state waits, the count of its links, then
+-- 256 links, oldest first.
+-- Taken where 01 is open: words behind the links are not looked at; fewer words than these, or a flag or waiting word other than 0 or 1,
+-- fail the state check.
+-- Assumes nothing.
+use Prim.Native.Nat.{ℕ, _+_}
+use mathlib.Core.Bool.{Bool}
+use mathlib.Core.List.{List}
+use lib.Dec.{eqb, leb}
+use lib.ListN.{length, take, drop}
+use Rattle.base.specs.Test.{_and_}
+use Rattle.base.specs.Lists.{_at_}
+use Rattle.ops.specs.Machine.{maxLinks}
+use Rattle.rules.specs.Control.{stateAt}
+use Rattle.rules.specs.Snapshot.{bit}
+use Rattle.rules.specs.Start.{ownWords}
+use Rattle.rules.specs.State as Rules
+use Rattle.states.specs.Views.{linksOf}
+use Rattle.states.specs.declared.State.{State}
+
+-- enough words, and the flag and the waiting word are 0 or 1
+unfoldable pub lawful : List ℕ → Bool
+lawful ws = leb 267 (length ws) and leb (ws at 7) 1 and leb (ws at 9) 1
+
+-- the 256 links
+abbrev pub linksIn : List ℕ → List ℕ
+linksIn ws = take maxLinks (drop 11 ws)
+
+-- the state of these words with the memory mem
+abbrev pub stateFrom : List ℕ → List ℕ → Rules.State
+stateFrom ws mem =
+    stateAt
+    (record {
+      words = ownWords (ws at 0) (ws at 1) (ws at 2) (ws at 3) (ws at 4) (ws at 5) (ws at 6) (bit (eqb (ws at 7) 1));
+      mem = mem;
+    })
+    (ws at 8) (eqb (ws at 9) 1) (linksOf (ws at 10) (linksIn ws))
+
+-- the same as the code holds it
+abbrev pub codeFrom : List ℕ → State
+codeFrom ws =
+    record {
+      xl = ws at 0;
+      xr = ws at 1;
+      xs = ws at 2;
+      wa = ws at 3;
+      wb = ws at 4;
+      wc = ws at 5;
+      ia = ws at 6;
+      flag = eqb (ws at 7) 1;
+      pc = ws at 8;
+      waiting = eqb (ws at 9) 1;
+      count = ws at 10;
+      links = linksIn ws;
+    }

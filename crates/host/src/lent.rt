@@ -1,0 +1,85 @@
+// A state that a host lends as words: XL XR XS WA WB WC IA, the flag, the place, whether the state waits, the count of its links,
+// then 256 links, oldest first. Words behind these are not looked at, nor are links from the count on.
+ghost use mathlib.Core.Path.{_≡_};
+ghost use Prim.Native.Nat.{_≤_};
+ghost use lib.ListN.{length};
+ghost use Rattle.host.specs.Lent.{codeFrom, lawful, linksIn};
+use ops::machine::Machine;
+use states::State;
+
+// Where each word stands.
+const XL: usize = 0;
+
+const XR: usize = 1;
+
+const XS: usize = 2;
+
+const WA: usize = 3;
+
+const WB: usize = 4;
+
+const WC: usize = 5;
+
+const IA: usize = 6;
+
+const FLAG: usize = 7;
+
+const PLACE: usize = 8;
+
+const WAITING: usize = 9;
+
+const COUNT: usize = 10;
+
+const LINKS: usize = 11;
+
+// How many words a state has.
+pub const WORDS: usize = LINKS + Machine::MAX_LINKS;
+
+// The words are enough for a state, and the flag and the waiting word are 0 or 1.
+pub fn words_ok(words: &[u32]) -> bool
+    ensures { λ r. ⌜ r ≡ lawful (now (words .entry)) ⌝ }
+{
+    if words.len() < WORDS {
+        return false;
+    }
+    if 1 < words[FLAG] {
+        return false;
+    }
+    words[WAITING] <= 1
+}
+
+// The 256 links.
+pub fn links_of(words: &[u32]) -> [u32; Machine::MAX_LINKS]
+    requires { ⌜ 267 ≤ length (now words) ⌝ }
+    ensures { λ r. ⌜ r ≡ linksIn (now (words .entry)) ⌝ }
+{
+    let mut links = [0u32; Machine::MAX_LINKS];
+    let mut i: usize = 0;
+    while i < Machine::MAX_LINKS {
+        links[i] = words[LINKS + i];
+        i += 1;
+    }
+    links
+}
+
+// The state beside its memory.
+pub fn state_of(words: &[u32]) -> State
+    requires { ⌜ 267 ≤ length (now words) ⌝ }
+    ensures { λ r. ⌜ r ≡ codeFrom (now (words .entry)) ⌝ }
+{
+    let links = links_of(words);
+    State {
+        xl: words[XL],
+        xr: words[XR],
+        xs: words[XS],
+        wa: words[WA],
+        wb: words[WB],
+        wc: words[WC],
+        ia: words[IA],
+        flag: words[FLAG] == 1,
+        pc: words[PLACE],
+        waiting: words[WAITING] == 1,
+        count: words[COUNT],
+        links,
+    }
+}
