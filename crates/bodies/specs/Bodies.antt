@@ -6,10 +6,10 @@ use mathlib.Core.List.{List}
 use lib.ListN.{length, getD}
 use Rattle.rules.specs.Table.{bodyAt, size}
 
--- the n entries of the table t, at most 1,024, lie in it
+-- the n entries of the table t, at most as many as a text has cards, lie in it
 pub record Entries (t : List ℕ) (n : ℕ) : Type 0 where
   pub count : n ≡ size t
-  pub few : n ≤ 1024
+  pub few : n ≤ 16384
   pub inside : 8 + 8 * n ≤ length t
 
 -- body holds the body of each place of the table t of n entries, and of the place past the last

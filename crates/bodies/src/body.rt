@@ -16,7 +16,7 @@ pub const ROOM: usize = Machine::MAX_INSTRS + 1;
 
 // The body that is open after the operation op at place p: 0 outside procedures, else 1 + the place of the PRC.
 fn after_entry(op: u32, p: u32, b: u32) -> u32
-    requires { ⌜ p < 1024 ⌝ }
+    requires { ⌜ p < 16384 ⌝ }
     ensures { λ r. ⌜ r ≡ bodyAfter (classIn op rows) p b ⌝ }
 {
     if op == PRC {

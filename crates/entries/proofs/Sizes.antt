@@ -30,10 +30,10 @@ limited t g e =
     let h : Ok (limitsOk t) = true-ok _ e in
     record {
       header = g;
-      few = ok-le _ _ (and-l _ _ h);
-      fresh = ok-le _ _ (and-l _ _ (and-r _ _ h));
-      externals = ok-le _ _ (and-l _ _ (and-r _ _ (and-r _ _ h)));
-      words = ok-le _ _ (and-r _ _ (and-r _ _ (and-r _ _ h)));
+      few = let k = ok-le (getD t 0 0) 1024 (and-l _ _ h) in omega arith;
+      fresh = let k = ok-le (getD t 3 0) 32 (and-l _ _ (and-r _ _ h)) in omega arith;
+      externals = let k = ok-le (getD t 4 0) 512 (and-l _ _ (and-r _ _ (and-r _ _ h))) in omega arith;
+      words = let k = ok-le (getD t 1 0 + getD t 2 0) 8128 (and-r _ _ (and-r _ _ (and-r _ _ h))) in omega arith;
     }
 
 pub laid : (t : List ℕ) → Limited t → length t ≡ tableLength t → Laid t

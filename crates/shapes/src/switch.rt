@@ -41,7 +41,7 @@ fn count_iffs(table: &[u32], classes: &[u32], body: &[u32], n: usize, p: usize) 
 
 // The IFF at q has another value than v, or none that is known.
 fn differs(table: &[u32], q: usize, v: u32) -> bool
-    requires { ⌜ (q < 1024) × (8 + 8 * q + 7 < length (now table)) ⌝ }
+    requires { ⌜ (q < 16384) × (8 + 8 * q + 7 < length (now table)) ⌝ }
     ensures { λ r. ⌜ r ≡ differsAt (now (table .entry)) v q ⌝ }
 {
     if table[HEADER + ENTRY * q + 1] != VALUE_KIND {
@@ -52,7 +52,7 @@ fn differs(table: &[u32], q: usize, v: u32) -> bool
 
 // No IFF of the k from place p on has the value v.
 fn unlike(table: &[u32], v: u32, p: usize, k: usize) -> bool
-    requires { ⌜ (p + k ≤ 1024) × (8 + 8 * (p + k) ≤ length (now table)) ⌝ }
+    requires { ⌜ (p + k ≤ 16384) × (8 + 8 * (p + k) ≤ length (now table)) ⌝ }
     ensures { λ r. ⌜ r ≡ Check.unlike (now (table .entry)) v p k ⌝ }
 {
     let mut i: usize = 0;
@@ -67,7 +67,7 @@ fn unlike(table: &[u32], v: u32, p: usize, k: usize) -> bool
 
 // The value of the IFF at q is below the limit and unlike those of the k after it, whose remainders are marked.
 fn is_fresh(table: &[u32], marks: &[u8], limit: u32, q: usize, k: usize) -> bool
-    requires { ⌜ (q + 1 + k ≤ 1024) × (8 + 8 * (q + 1 + k) ≤ length (now table)) × Marked (now table) (now marks) (q + 1) k ⌝ }
+    requires { ⌜ (q + 1 + k ≤ 16384) × (8 + 8 * (q + 1 + k) ≤ length (now table)) × Marked (now table) (now marks) (q + 1) k ⌝ }
     ensures { λ r. ⌜ r ≡ freshAt (now (table .entry)) limit q k ⌝ }
 {
     if table[HEADER + ENTRY * q + 1] != VALUE_KIND {
@@ -86,7 +86,7 @@ fn is_fresh(table: &[u32], marks: &[u8], limit: u32, q: usize, k: usize) -> bool
 
 // The value of the IFF at q is marked by its remainder.
 fn mark(table: &[u32], marks: &mut [u8], q: usize, k: usize)
-    requires { ⌜ (q < 1024) × (8 + 8 * q + 7 < length (now table)) × Marked (now table) (now marks) (q + 1) k ⌝ }
+    requires { ⌜ (q < 16384) × (8 + 8 * q + 7 < length (now table)) × Marked (now table) (now marks) (q + 1) k ⌝ }
     ensures { λ r. ⌜ Marked (now (table .entry)) (now (marks .exit)) q (suc k) ⌝ }
 {
     if table[HEADER + ENTRY * q + 1] != VALUE_KIND {
@@ -98,7 +98,7 @@ fn mark(table: &[u32], marks: &mut [u8], q: usize, k: usize)
 
 // The values of the k IFFs from place p on are below the limit, and distinct.
 fn are_distinct(table: &[u32], limit: u32, p: usize, k: usize) -> bool
-    requires { ⌜ (p + k ≤ 1024) × (8 + 8 * (p + k) ≤ length (now table)) ⌝ }
+    requires { ⌜ (p + k ≤ 16384) × (8 + 8 * (p + k) ≤ length (now table)) ⌝ }
     ensures { λ r. ⌜ r ≡ Check.distinctIffs (now (table .entry)) limit p k ⌝ }
 {
     let mut marks = [0u8; 1024];

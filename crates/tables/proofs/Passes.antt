@@ -1,6 +1,6 @@
 -- The rules of a place by the number of its class, and the whole check as the passes of the code.
 -- Assumes nothing.
-use Prim.Native.Nat.{ℕ, zero, suc, _+_, _*_, _≤_}
+use Prim.Native.Nat.{ℕ, zero, suc, _+_, _*_, _≤_, _<_}
 use mathlib.Core.Path.{_≡_, refl, sym, ap, _∙_}
 use mathlib.Core.Bool.{Bool, true, false, not}
 use mathlib.Core.List.{List}
@@ -83,6 +83,10 @@ pub laid-long : (t : List ℕ) → layoutOk t ≡ true → 8 ≤ length t
 unfolding layoutOk tableLength
 laid-long t e = omega (arith, ok-eq (length t) _ (and-l _ _ (and-r _ _ (true-ok _ e))))
 
+pub laid-few : (t : List ℕ) → layoutOk t ≡ true → getD t 0 0 ≤ 1024
+unfolding layoutOk limitsOk size
+laid-few t e = ok-le (getD t 0 0) 1024 (and-l _ _ (and-l _ _ (true-ok _ e)))
+
 -- the check by its three parts
 module _ (t : List ℕ) where
   pub check-layout : layoutOk t ≡ false → false ≡ tableOk t
@@ -99,12 +103,12 @@ module _ (t : List ℕ) where
     check-shapes n q e = rw q (sym (and-yes _ _ l ∙ rules-split t (getD t 0 0) ∙ and-yes _ _ e))
 
 -- what the passes leave is what the shape rules ask
-pub known-of : (t cs body : List ℕ) (n : ℕ) → Laid t → n ≡ getD t 0 0 → length cs ≡ 1025 → ClassesOf t cs → Filled t n body → Known t cs body n
+pub known-of : (t cs body : List ℕ) (n : ℕ) → Laid t → n ≡ getD t 0 0 → n < length cs → ClassesOf t cs → Filled t n body → Known t cs body n
 known-of t cs body n l e r c f =
     record {
       laid = l;
       count = e;
-      room = omega (arith, l .limits .few);
+      room = r;
       classes = λ q h. c q (omega arith);
       wide = f .room;
       bodies = f .found;

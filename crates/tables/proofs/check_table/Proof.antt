@@ -1,6 +1,6 @@
 -- `tables::check_table` meets its contract: layout, fields and shapes are the parts of the check, and each pass leaves what the next one asks.
 -- Assumes nothing.
-use Rattle.tables.proofs.Passes.{laid-of, laid-long, check-layout, check-fields, check-shapes, known-of, entries-of}
+use Rattle.tables.proofs.Passes.{laid-of, laid-few, laid-long, check-layout, check-fields, check-shapes, known-of, entries-of}
 use Rattle.entries.specs.Laid.{Laid}
 use Rattle.rules.specs.Check.{layoutOk}
 use borrow.Author.Tests.{not-true, not-false}
@@ -43,7 +43,7 @@ fields-ok-requires c κs =
     let t = c .before .before .before .before .before .before .args .table .now in
     let o : layoutOk t ≡ true = sym (c .before .before .before .before .layout-ok .ensures) ∙ not-false (c .before .before .before .before .layout-ok .result) (c .before .before .before .if1 .left) in
     let l : Laid t = laid-of t (laid-long t o) o in
-    (l, c .before .before .rows .ensures, omega (arith, l .limits .few))
+    (l, c .before .before .rows .ensures, omega (arith, laid-few t o))
 
 -- src/lib.rt:19:9
 returns-2 : tie.Need-returns-2
@@ -73,7 +73,7 @@ bodies-requires c κs =
     let t = c .before .before .before .before .before .before .before .before .before .before .before .before .args .table .now in
     let o : layoutOk t ≡ true = sym (c .before .before .before .before .before .before .before .before .before .before .layout-ok .ensures) ∙ not-false (c .before .before .before .before .before .before .before .before .before .before .layout-ok .result) (c .before .before .before .before .before .before .before .before .before .if1 .left) in
     let l : Laid t = laid-of t (laid-long t o) o in
-    (entries-of t (c .before .index .result) l (c .before .index .ensures), omega (arith, c .before .index .ensures, l .limits .few))
+    (entries-of t (c .before .index .result) l (c .before .index .ensures), omega (arith, c .before .index .ensures, laid-few t o))
 
 -- src/lib.rt:24:29
 slice-aggregate-shapes-ok : tie.Need-slice-aggregate-shapes-ok
@@ -89,7 +89,7 @@ shapes-ok-requires c κs =
     let t = c .before .before .before .before .before .before .before .before .before .before .before .before .before .before .before .before .args .table .now in
     let o : layoutOk t ≡ true = sym (c .before .before .before .before .before .before .before .before .before .before .before .before .before .before .layout-ok .ensures) ∙ not-false (c .before .before .before .before .before .before .before .before .before .before .before .before .before .before .layout-ok .result) (c .before .before .before .before .before .before .before .before .before .before .before .before .before .if1 .left) in
     let l : Laid t = laid-of t (laid-long t o) o in
-    known-of t _ _ (c .before .before .before .before .before .index .result) l (c .before .before .before .before .before .index .ensures) (c .before .before .before .before .before .before .before .before .before .fields-ok .kept .1 .1 .0) (c .before .before .before .before .before .before .before .before .before .fields-ok .ensures .classes (not-false (c .before .before .before .before .before .before .before .before .before .fields-ok .result) (c .before .before .before .before .before .before .before .if2 .left))) (c .before .before .before .bodies .ensures)
+    known-of t _ _ (c .before .before .before .before .before .index .result) l (c .before .before .before .before .before .index .ensures) (omega (arith, c .before .before .before .before .before .index .ensures, laid-few t o, c .before .before .before .before .before .before .before .before .before .fields-ok .kept .1 .1 .0)) (c .before .before .before .before .before .before .before .before .before .fields-ok .ensures .classes (not-false (c .before .before .before .before .before .before .before .before .before .fields-ok .result) (c .before .before .before .before .before .before .before .if2 .left))) (c .before .before .before .bodies .ensures)
 
 -- src/lib.rt:10:1
 returns-3 : tie.Need-returns-3

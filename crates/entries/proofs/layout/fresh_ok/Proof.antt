@@ -16,7 +16,7 @@ use Rattle.entries.proofs.layout.fresh_ok.Lts as lts
 use Rattle.entries.proofs.layout.index.Reads as index-reads
 
 abbrev Inv-loop : tie.InvT-loop
-Inv-loop table c limit f at words low₀ i₀ low i = (i ≤ f) × (low ≤ 40000) × (freshOk table low₀ 0 f ≡ freshOk table low i (f - i))
+Inv-loop table c limit f at words low₀ i₀ low i = (i ≤ f) × (low ≤ 200000) × (freshOk table low₀ 0 f ≡ freshOk table low i (f - i))
 
 abbrev μ-loop : tie.MeasureT-loop
 μ-loop table c limit f at words low₀ i₀ low i = f - i
