@@ -31,6 +31,11 @@ entries-of t n ok e =
     let long : length t ≡ tableLength t = ok-eq _ _ (and-l _ _ (and-r _ _ l)) in
     record { count = e; few = omega arith; inside = omega arith }
 
+-- and are at most 1,024
+pub size-most : (t : List ℕ) → Ok (tableOk t) → size t ≤ 1024
+unfolding tableOk layoutOk limitsOk
+size-most t ok = ok-le _ _ (and-l _ _ (and-l _ _ (and-l _ _ ok)))
+
 pub class-past : (t : List ℕ) (q : ℕ) → size t ≤ q → classAt t q ≡ none
 unfolding classAt if
 class-past t q h = rw (le-ltb q (size t) h) refl

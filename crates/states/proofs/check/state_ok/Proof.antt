@@ -1,7 +1,7 @@
 -- `states::check::state_ok` meets its contract. Assumes nothing.
 use Prim.Native.Nat.{ℕ, _<_, _≤_}
 use Rattle.rules.specs.Table.{size}
-use Rattle.bodies.proofs.Places.{entries-of}
+use Rattle.bodies.proofs.Places.{entries-of, size-most}
 use lib.ListN.{length}
 use mathlib.Core.Path.{_≡_, refl, sym, ap, _∙_}
 use native.Mathlib.Omega.{arith}
@@ -32,7 +32,7 @@ bodies-requires c κs =
     let args = c .before .before .before .before .args in
     let pre = c .before .before .before .before .pre in
     let e = entries-of (args .t .now) (c .before .index .result) (pre) (c .before .index .ensures) in
-    (e, omega arith)
+    (e, omega (arith, size-most (args .t .now) pre, c .before .index .ensures))
 
 slice-aggregate-state-ok-with : tie.Need-slice-aggregate-state-ok-with
 slice-aggregate-state-ok-with c = search needs
