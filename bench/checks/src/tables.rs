@@ -1,4 +1,4 @@
-//! Lawful tables of 1,024 entries.
+//! Lawful tables, full ones of 1,024 entries and smaller ones.
 
 pub const ENTRIES: usize = 1024;
 const HEADER: usize = 8;
@@ -111,7 +111,6 @@ pub struct Full {
     pub last_exit: usize,
 }
 
-const PROCEDURES: usize = 20;
 const EXITS: u32 = 3;
 const CASES: u32 = 8;
 
@@ -148,8 +147,13 @@ fn straight(t: &mut Writer, p: usize) {
     t.put(BCT, w(WA), place(p));
 }
 
-/// 20 procedures with exit lists, switches of 8, moves, sums and branches; calls from outside, and of an EXP.
+/// 1,024 entries with 20 procedures.
 pub fn full() -> Full {
+    filled(ENTRIES, 20, 230)
+}
+
+/// Procedures with exit lists, switches of 8, moves, sums and branches; calls from outside, and of an EXP; 10 constant words.
+pub fn filled(entries: usize, procedures: usize, workings: u32) -> Full {
     let mut t = Writer(Vec::new());
     // The length of a procedure from its PRC to its ENP.
     let body = {
@@ -157,19 +161,19 @@ pub fn full() -> Full {
         procedure(&mut one, 0);
         one.here()
     };
-    let main = 1 + 4 * PROCEDURES + 3;
+    let main = 1 + 4 * procedures + 3;
     let first = |i: usize| main + body * i;
     t.put(MOV, value(1), w(WA));
-    for i in 0..PROCEDURES {
+    for i in 0..procedures {
         call(&mut t, first(i), 0);
     }
     t.put(JSR, external(1), NONE);
     t.put(PPM, place(0), NONE);
     t.put(BRN, place(0), NONE);
-    for i in 0..PROCEDURES {
+    for i in 0..procedures {
         procedure(&mut t, first(i));
     }
-    while t.here() + 3 < ENTRIES {
+    while t.here() + 3 < entries {
         t.put(MOV, word(30), word(31));
     }
     t.put(BRN, place(0), NONE);
@@ -177,15 +181,15 @@ pub fn full() -> Full {
         t.put(BRN, place(t.here()), NONE);
     }
     let inner = |i: usize| first(i) + body - CALL_FROM_END;
-    let last_exit = HEADER + ENTRY * (inner(PROCEDURES - 1) + EXITS as usize);
+    let last_exit = HEADER + ENTRY * (inner(procedures - 1) + EXITS as usize);
     let mut behind = vec![4 * 40, 4 * 41, 0, 1];
     behind.extend([5; 40]);
-    behind.extend([0; 200]);
+    behind.extend(vec![0; workings as usize - 30]);
     Full {
-        table: t.table([10, 230, 2, 2], &behind),
+        table: t.table([10, workings, 2, 2], &behind),
         outer: 1,
         inner: inner(0) as u32,
-        other: inner(1) as u32,
+        other: inner(procedures - 1) as u32,
         inside: first(0) as u32 + 1,
         last_exit,
     }

@@ -5,7 +5,7 @@
 -- Assumes nothing.
 use Prim.Native.Nat.{ℕ, _+_}
 use mathlib.Core.Bool.{Bool}
-use mathlib.Core.List.{List}
+use mathlib.Core.List.{List, [], _∷_, _++_}
 use lib.Dec.{eqb, leb}
 use lib.ListN.{length, take, drop}
 use Rattle.base.specs.Test.{_and_}
@@ -53,3 +53,11 @@ codeFrom ws =
       count = ws at 10;
       links = linksIn ws;
     }
+
+-- the words of a state: those in front of the links, and all 267
+abbrev pub headOf : State → List ℕ
+headOf s =
+    s .xl ∷ s .xr ∷ s .xs ∷ s .wa ∷ s .wb ∷ s .wc ∷ s .ia ∷ bit (s .flag) ∷ s .pc ∷ bit (s .waiting) ∷ s .count ∷ []
+
+abbrev pub wordsFrom : State → List ℕ
+wordsFrom s = headOf s ++ s .links

@@ -3,8 +3,13 @@
 ghost use mathlib.Core.Path.{_≡_};
 ghost use Prim.Native.Nat.{_≤_};
 ghost use lib.ListN.{length};
-ghost use Rattle.host.specs.Lent.{codeFrom, lawful, linksIn};
+ghost use Prim.Native.Nat.{_+_};
+ghost use mathlib.Core.List.{_++_};
+ghost use lib.ListN.{drop};
+ghost use Rattle.snapshot.specs.Buffers.{put};
+ghost use Rattle.host.specs.Lent.{codeFrom, headOf, lawful, linksIn, wordsFrom};
 use ops::machine::Machine;
+use snapshot::writing::bit;
 use states::State;
 
 // Where each word stands.
@@ -82,4 +87,47 @@ pub fn state_of(words: &[u32]) -> State
         count: words[COUNT],
         links,
     }
+}
+
+// The words in front of the links.
+pub fn head_of(s: State) -> [u32; LINKS]
+    ensures { λ r. ⌜ r ≡ headOf s ⌝ }
+{
+    [
+        s.xl,
+        s.xr,
+        s.xs,
+        s.wa,
+        s.wb,
+        s.wc,
+        s.ia,
+        bit(s.flag),
+        s.pc,
+        bit(s.waiting),
+        s.count,
+    ]
+}
+
+// The words from at word at on; all other words stay.
+pub fn put_words(words: &mut [u32], at: usize, from: &[u32])
+    requires { ⌜ at + length (now from) ≤ length (now words) ⌝ }
+    ensures { λ r. ⌜ now (words .exit) ≡ put (now (words .entry)) at (now (from .entry)) ⌝ }
+{
+    let n = from.len();
+    let mut i: usize = 0;
+    while i < n {
+        words[at + i] = from[i];
+        i += 1;
+    }
+}
+
+// The words of a state; words behind them stay.
+pub fn put_state(words: &mut [u32], s: State)
+    requires { ⌜ 267 ≤ length (now words) ⌝ }
+    ensures { λ r. ⌜ now (words .exit) ≡ wordsFrom s ++ drop 267 (now (words .entry)) ⌝ }
+{
+    let head = head_of(s);
+    put_words(words, 0, &head);
+    let links = s.links;
+    put_words(words, LINKS, &links);
 }

@@ -1,22 +1,46 @@
-// The checks as a host calls them, with plain words for all that is lent: 0, or the number of a refusal [S Numbers the host sees].
+// The checks and the snapshot as a host calls them, with plain words and bytes for all that is lent [S Numbers the host sees].
+// An answer is a number, 0 or that of a refusal; where there is a value too, the number is the upper half of a u64 and the value the lower.
+// A refusal changes no lent word and no lent byte.
 ghost use mathlib.Core.Path.{_≡_};
 ghost use mathlib.Core.List.{List};
 ghost use Prim.Native.Nat.{ℕ};
 ghost use lib.ListN.{length};
 ghost use Rattle.host.specs.Answer.{stateNumber, tableNumber};
+ghost use Rattle.host.specs.Freezing.{HostRestores, HostWrites, numberOf, numberWritten};
+use lent::WORDS;
+use lent::put_state;
 use lent::state_of;
 use lent::words_ok;
+use snapshot::waking::Answer;
+use snapshot::waking::restore_checked;
+use snapshot::writing::Written;
+use snapshot::writing::write_checked;
 use states::check::state_ok;
 use tables::check_table;
 
 pub mod lent;
 
-// The answers: passed, 30 and 31.
+// The answers: passed, 30, 31, and those of the snapshot, 40 to 45.
 const PASSED: u32 = 0;
 
 const BAD_TABLE: u32 = 30;
 
 const BAD_STATE: u32 = 31;
+
+const BAD_TRAILER: u32 = 40;
+
+const OTHER_PROGRAM: u32 = 41;
+
+const BAD_FROZEN: u32 = 42;
+
+const FRESH_COUNT_OFF: u32 = 43;
+
+const MEMORY_LENGTH_OFF: u32 = 44;
+
+const SHORT_ROOM: u32 = 45;
+
+// A number of 1 in the upper half of an answer.
+const UPPER: u64 = 4294967296;
 
 // 0: the table passes its check. 30: it does not. Any words may be asked.
 #[no_mangle]
@@ -46,4 +70,84 @@ pub extern "C" fn torzimlak_check_state(table: &[u32], len: usize, state: &[u32]
         return PASSED;
     }
     BAD_STATE
+}
+
+// The number of an answer of restore.
+fn number_of(a: Answer) -> u32
+    ensures { λ r. ⌜ r ≡ numberOf a ⌝ }
+{
+    match a {
+        Answer::Woken => PASSED,
+        Answer::BadTable => BAD_TABLE,
+        Answer::BadTrailer => BAD_TRAILER,
+        Answer::OtherProgram => OTHER_PROGRAM,
+        Answer::BadFrozen => BAD_FROZEN,
+        Answer::FreshCountOff => FRESH_COUNT_OFF,
+        Answer::MemoryLengthOff => MEMORY_LENGTH_OFF,
+    }
+}
+
+// The number and the length of an answer of the writer.
+fn number_written(w: Written) -> u64
+    ensures { λ r. ⌜ r ≡ numberWritten w ⌝ }
+{
+    match w {
+        Written::Filled(len) => len as u64,
+        Written::BadTable => UPPER * BAD_TABLE as u64,
+        Written::BadState => UPPER * BAD_STATE as u64,
+        Written::ShortRoom => UPPER * SHORT_ROOM as u64,
+    }
+}
+
+// Upper half 0, lower half L: the machine's file of L bytes stands at the front of the room. Upper half 30: the table does not pass its
+// check. 31: the words are no state, or the state does not pass its check. 45: the room is under L. The lower half of a refusal is 0.
+#[no_mangle]
+pub extern "C" fn torzimlak_write(
+    table: &[u32],
+    memory: &[u32],
+    state: &[u32],
+    build: u32,
+    file: &mut [u8],
+) -> u64
+    ensures { λ r. ⌜ HostWrites (now (table .entry)) (now (state .entry)) (now (memory .entry)) build (now (file .entry)) r (now (file .exit)) ⌝ }
+{
+    if !check_table(table) {
+        return UPPER * BAD_TABLE as u64;
+    }
+    if !words_ok(state) {
+        return UPPER * BAD_STATE as u64;
+    }
+    let s = state_of(state);
+    let w = write_checked(table, memory, s, build, file);
+    number_written(w)
+}
+
+// 0: the machine at the end of the file is woken, its memory and its 267 words of state in what is lent, with the host's fresh words.
+// 30: the table does not pass its check. 31: fewer words are lent than a state has. 40 the trailer, 41 another program or build,
+// 42 the frozen state, 43 the count of fresh words, 44 the length of memory.
+#[no_mangle]
+pub extern "C" fn torzimlak_restore(
+    table: &[u32],
+    file: &[u8],
+    build: u32,
+    fresh: &[u32],
+    memory: &mut [u32],
+    state: &mut [u32],
+) -> u32
+    ensures { λ r. ⌜ HostRestores (now (table .entry)) (now (file .entry)) build (now (fresh .entry)) (now (memory .entry)) (now (state .entry)) r (now (memory .exit)) (now (state .exit)) ⌝ }
+{
+    if !check_table(table) {
+        return BAD_TABLE;
+    }
+    if state.len() < WORDS {
+        return BAD_STATE;
+    }
+    let r = restore_checked(table, file, build, fresh, memory);
+    let a = r.answer;
+    let number = number_of(a);
+    if number == PASSED {
+        let s = r.state;
+        put_state(state, s);
+    }
+    number
 }

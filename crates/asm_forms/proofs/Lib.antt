@@ -1,0 +1,3 @@
+pub mod Forms
+pub mod Divided
+pub mod Delimited

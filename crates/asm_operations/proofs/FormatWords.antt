@@ -1,0 +1,108 @@
+-- The words of an operation's formats are those that the table's words give, and they tell how many there are: one test over all rows.
+-- Assumes nothing.
+use Prim.Native.Nat.{ℕ, zero, suc, _+_, _<_, _≤_}
+use native.Mathlib.Omega.{arith}
+use mathlib.Core.Path.{_≡_, refl, sym, ap, subst, _∙_}
+use mathlib.Core.Bool.{Bool, true, false}
+use mathlib.Core.List.{List}
+use lib.Dec.{eqb, leb, ltb}
+use lib.ListN.{getD, length}
+use borrow.Author.Tests.{le-ltb, lt-ltb, ltb-false, ltb-true}
+use Rattle.base.specs.Test.{_and_, if, Ok}
+use Rattle.base.proofs.Bool.{and-l, and-r, ok-eq}
+use Rattle.ops.specs.Format.{Format, NONE, formatWord}
+use Rattle.ops.specs.Lookup.{noRow, rowAt}
+use Rattle.ops.specs.Ops.{Row, cellsOf, rows}
+use Rattle.ops.proofs.Every.{every, every-at}
+use Rattle.ops.proofs.Rows.{rows-count}
+use Rattle.language.specs.Operation.{Assembly, DAC, DBC, DIC, DTC, EJC, END, EQU, EXP, GLB, INP, INR, Operation, SEC, TTL, assemblyRow, assembles, empty, formatsOf, malformed, operates, rowFormats, unknown}
+use Rattle.asm_operations.specs.Codes.{assemblyCode, assemblyFormat, codeOf, firstFormat, operandFormat, rowFormat, rowOf}
+use Rattle.asm_operations.proofs.Laws.{code-below, row-past}
+
+-- the word of format i of a list
+abbrev pub wordAt : List Format → ℕ → ℕ
+wordAt fs i = formatWord (getD fs i NONE)
+
+-- how many formats there are, by their words
+abbrev pub countBy : (ℕ → ℕ) → ℕ
+countBy w = if (eqb (w 0) 1) 0 (if (eqb (w 1) 1) 1 (if (eqb (w 2) 1) 2 (if (eqb (w 3) 1) 3 4)))
+
+-- the list has these words below 4, and as many as they tell
+abbrev agrees : List Format → (ℕ → ℕ) → Bool
+agrees fs w =
+    eqb (length fs) (countBy (wordAt fs)) and eqb (wordAt fs 0) (w 0) and eqb (wordAt fs 1) (w 1) and eqb (wordAt fs 2) (w 2)
+    and eqb (wordAt fs 3) (w 3)
+
+module _ (fs : List Format) (w : ℕ → ℕ) (t : Ok (agrees fs w)) where
+  counted : length fs ≡ countBy (wordAt fs)
+  counted = ok-eq _ _ (and-l _ _ t)
+
+  worded : (i : ℕ) → i < 4 → wordAt fs i ≡ w i
+  worded zero h = ok-eq _ _ (and-l _ _ (and-r _ _ t))
+  worded (suc zero) h = ok-eq _ _ (and-l _ _ (and-r _ _ (and-r _ _ t)))
+  worded (suc (suc zero)) h = ok-eq _ _ (and-l _ _ (and-r _ _ (and-r _ _ (and-r _ _ t))))
+  worded (suc (suc (suc zero))) h = ok-eq _ _ (and-r _ _ (and-r _ _ (and-r _ _ (and-r _ _ t))))
+  worded (suc (suc (suc (suc i)))) h = absurd (omega arith)
+
+rowAgrees : ℕ → Row → Bool
+rowAgrees i r = agrees (rowFormats r) (rowFormat r)
+
+all-agree : Ok (every rowAgrees 0 rows)
+unfolding rows rowAgrees rowFormat operandFormat if Ok _and_
+all-agree = tt
+
+none-agrees : Ok (agrees (rowFormats noRow) (rowFormat noRow))
+unfolding rowFormat operandFormat if Ok _and_
+none-agrees = tt
+
+row-agrees : (i : ℕ) → Ok (agrees (rowFormats (rowAt i)) (rowFormat (rowAt i)))
+unfolding rowAgrees
+row-agrees i = go (ltb i 89) refl
+  where
+    go : (b : Bool) → ltb i 89 ≡ b → Ok (agrees (rowFormats (rowAt i)) (rowFormat (rowAt i)))
+    go true q = every-at rowAgrees noRow rows all-agree i (rw rows-count (ltb-true i 89 q))
+    go false q = subst (λ (r : Row). Ok (agrees (rowFormats r) (rowFormat r))) (sym (row-past i (ltb-false i 89 q))) none-agrees
+
+assembly-agrees : (a : Assembly) → Ok (agrees (assemblyRow a .formats) (assemblyFormat (assemblyCode a)))
+unfolding assemblyFormat firstFormat if Ok _and_
+assembly-agrees SEC = tt
+assembly-agrees END = tt
+assembly-agrees TTL = tt
+assembly-agrees EJC = tt
+assembly-agrees EXP = tt
+assembly-agrees INP = tt
+assembly-agrees INR = tt
+assembly-agrees GLB = tt
+assembly-agrees EQU = tt
+assembly-agrees DAC = tt
+assembly-agrees DIC = tt
+assembly-agrees DBC = tt
+assembly-agrees DTC = tt
+
+-- the words as the code finds them: an assembly operation's by its code, else those of the row
+abbrev pub formatBy : Operation → ℕ → ℕ
+formatBy o i = if (ltb (codeOf o) 13) (assemblyFormat (codeOf o) i) (rowFormat (rowOf o) i)
+
+pub format-by : (o : Operation) (i : ℕ) → i < 4 → wordAt (formatsOf o) i ≡ formatBy o i
+unfolding formatsOf codeOf rowOf if
+format-by empty i h = worded (rowFormats noRow) (rowFormat noRow) none-agrees i h
+format-by malformed i h = worded (rowFormats noRow) (rowFormat noRow) none-agrees i h
+format-by unknown i h = worded (rowFormats noRow) (rowFormat noRow) none-agrees i h
+format-by (assembles a) i h =
+    rw (lt-ltb (assemblyCode a) 13 (code-below a)) (worded (assemblyRow a .formats) (assemblyFormat (assemblyCode a)) (assembly-agrees a) i h)
+format-by (operates j) i h = worded (rowFormats (rowAt j)) (rowFormat (rowAt j)) (row-agrees j) i h
+
+pub count-by : (o : Operation) → length (formatsOf o) ≡ countBy (wordAt (formatsOf o))
+unfolding formatsOf if
+count-by empty = refl
+count-by malformed = refl
+count-by unknown = refl
+count-by (assembles a) = counted (assemblyRow a .formats) (assemblyFormat (assemblyCode a)) (assembly-agrees a)
+count-by (operates j) = counted (rowFormats (rowAt j)) (rowFormat (rowAt j)) (row-agrees j)
+
+-- the formats of the row past the last
+pub none-cell : (i : ℕ) → i < 3 → 1 ≡ getD (cellsOf noRow) (3 + i) 0
+none-cell zero h = refl
+none-cell (suc zero) h = refl
+none-cell (suc (suc zero)) h = refl
+none-cell (suc (suc (suc i))) h = absurd (omega arith)
