@@ -1,0 +1,4 @@
+pub mod Sorts
+pub mod Walks
+pub mod Places
+pub mod Stores
