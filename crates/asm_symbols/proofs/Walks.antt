@@ -71,3 +71,17 @@ module _ (xs : List ℕ) (n i k l r : ℕ) (w : NextAbove xs n i k l r) where
 
   pub next-none : n ≤ r → aboveFrom xs n i k l ≡ []
   next-none e = w .same ∙ above-end xs n k l r e
+
+-- one field above the line, or two and those that follow
+module _ (xs : List ℕ) (n k l i j : ℕ) (v : NextAbove xs n 0 k l i) (w : NextAbove xs n (i + 1) k l j) (h : i < n) where
+  pub above-one : n ≤ j → above l (fieldsNamed k (symbolsIn xs n)) ≡ symbolAt xs i ∷ []
+  above-one g =
+      sym (above-all xs n k l)
+      ∙ next-here xs n 0 k l i v h
+      ∙ ap (λ (ys : List Symbol). symbolAt xs i ∷ ys) (next-none xs n (i + 1) k l j w g)
+
+  pub above-two : j < n → above l (fieldsNamed k (symbolsIn xs n)) ≡ symbolAt xs i ∷ symbolAt xs j ∷ aboveFrom xs n (j + 1) k l
+  above-two g =
+      sym (above-all xs n k l)
+      ∙ next-here xs n 0 k l i v h
+      ∙ ap (λ (ys : List Symbol). symbolAt xs i ∷ ys) (next-here xs n (i + 1) k l j w g)

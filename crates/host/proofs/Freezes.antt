@@ -20,15 +20,15 @@ use Rattle.rules.specs.Snapshot.{bit, fileOf, filled, restoreOf, unwoken, unwri
 use Rattle.rules.proofs.Files.{state-limits}
 use Rattle.rules.proofs.Snapshots.{restored-passes}
 use Rattle.states.specs.declared.State.{State}
-use Rattle.states.specs.Views.{linksOf, stateOf}
-use Rattle.snapshot.specs.Answers.{Restores, Writes, answerOf, blank, bytesAfter, bytesWritten, memoryAfter, roomAfter, stateAfter, writtenOf}
+use Rattle.states.specs.Views.{blank, linksOf, stateOf}
+use Rattle.snapshot.specs.Answers.{Restores, Writes, answerOf, bytesAfter, bytesWritten, memoryAfter, roomAfter, stateAfter, writtenOf}
 use Rattle.snapshot.specs.declared.waking.Answer.{Answer}
 use Rattle.snapshot.specs.declared.waking.Answer.the-variants.{Woken, BadTable, BadTrailer, OtherProgram, BadFrozen, FreshCountOff, MemoryLengthOff}
 use Rattle.snapshot.specs.declared.waking.Restored.{Restored}
 use Rattle.snapshot.specs.declared.writing.Written.{Written}
 use Rattle.snapshot.specs.declared.writing.Written.the-variants as written
 use Rattle.snapshot.specs.declared.writing.Written.the-variants.{Filled, BadState, ShortRoom}
-use Rattle.snapshot.proofs.Wakings.{skip, stop}
+use Rattle.states.proofs.Admits.{skip, stop}
 use Rattle.host.specs.Lent.{lawful, codeFrom, stateFrom, wordsFrom}
 use Rattle.host.specs.Freezing.{HostRestores, HostWrites, fileNumber, numberOf, numberWritten, restoreWords, upper, wokenNumber, wordsAfter, writeWords}
 

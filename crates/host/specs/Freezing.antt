@@ -15,7 +15,7 @@ use Rattle.rules.specs.Snapshot as Snapshot
 use Rattle.rules.specs.State as Rules
 use Rattle.rules.specs.Snapshot.{fileOf, filled, restoreOf, unwoken, unwritten, woken, writeOf}
 use Rattle.snapshot.specs.Answers.{memoryAfter, roomAfter}
-use Rattle.snapshot.specs.Views.{codeOf}
+use Rattle.states.specs.Views.{codeOf}
 use Rattle.snapshot.specs.declared.waking.Answer.{Answer}
 use Rattle.snapshot.specs.declared.waking.Answer.the-variants.{Woken, BadTable, BadTrailer, OtherProgram, BadFrozen, FreshCountOff, MemoryLengthOff}
 use Rattle.snapshot.specs.declared.writing.Written.{Written}

@@ -13,11 +13,11 @@ use Rattle.rules.specs.State.{State, stateOk}
 use Rattle.rules.specs.Table.{freshCount}
 use Rattle.rules.specs.Snapshot.{fileLength, fileOf, filled, unwritten, writeOf}
 use Rattle.rules.proofs.Files.{length-fileOf}
+use Rattle.states.proofs.Admits.{skip, stop}
 use Rattle.snapshot.specs.Answers.{Writes}
 use Rattle.snapshot.specs.Buffers.{put}
 use Rattle.snapshot.specs.declared.writing.Written.the-variants.{BadState, BadTable, Filled, ShortRoom}
 use Rattle.snapshot.proofs.Freshening.{put-front}
-use Rattle.snapshot.proofs.Wakings.{skip, stop}
 
 -- a choice by its test
 taken : {A : Type 0} (b : Bool) (x y : A) → b ≡ true → if b x y ≡ x

@@ -1,4 +1,4 @@
--- Fresh words one by one: hidden in a file, found hidden, and supplied to memory.
+-- Fresh words one by one: hidden in a file, and found hidden.
 -- Assumes nothing.
 use Prim.Native.Nat.{ℕ, zero, suc, _+_, _*_, _<_, _≤_}
 use mathlib.Core.Path.{_≡_, sym, ap, _∙_}
@@ -7,7 +7,7 @@ use mathlib.Core.List.{List, [], _++_}
 use mathlib.Core.Logic.{_≢_}
 use native.Mathlib.Omega.{arith}
 use native.Mathlib.Nat.{zero-add}
-use lib.ListN.{length, drop, set}
+use lib.ListN.{length, drop}
 use Rattle.base.specs.Test.{Ok, _and_}
 use Rattle.base.specs.Lists.{_at_}
 use Rattle.base.proofs.Bool.{and-i, eq-ok}
@@ -44,14 +44,6 @@ hide-last t mem room file i e h =
     let n : length (bytesFrom (hidden t mem)) ≡ length (bytesFrom mem) =
     length-bytesFrom (hidden t mem) ∙ ap (λ (k : ℕ). 4 * k) (length-refreshed t [] mem) ∙ sym (length-bytesFrom mem) in
     rw (put-front, n, h, e)
-
--- one more fresh word is supplied
-pub supply-next : (t fs mem now : List ℕ) (i p : ℕ) → p ≡ freshIndex t i → now ≡ supplied t fs i mem
-    → set now p (fs at i) ≡ supplied t fs (i + 1) mem
-unfolding supplied
-supply-next t fs mem now i p e h =
-    let s : i + 1 ≡ suc i = omega arith in
-    rw (h, e, s)
 
 -- word p of n words of a file
 pub wordsIn-at : (file : List ℕ) (a n p : ℕ) → p < n → wordsIn file a n at p ≡ wordIn file (a + 4 * p)

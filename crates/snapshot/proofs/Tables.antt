@@ -1,6 +1,6 @@
--- What a table that passes its check has: its header, its fresh addresses behind the entries, and its fresh words in the program's own.
+-- What a table that passes its check has: its fresh addresses behind the entries.
 -- Assumes nothing.
-use Prim.Native.Nat.{ℕ, zero, suc, _+_, _*_, _-_, _<_, _≤_}
+use Prim.Native.Nat.{ℕ, zero, suc, _+_, _-_, _<_, _≤_}
 use mathlib.Core.Path.{_≡_, refl, ap}
 use mathlib.Core.List.{List, _∷_}
 use native.Mathlib.Omega.{arith}
@@ -8,27 +8,10 @@ use lib.ListN.{length, take, drop}
 use lib.Seq.{drop-cons}
 use Rattle.base.specs.Test.{Ok}
 use Rattle.base.specs.Lists.{_at_}
-use Rattle.base.proofs.Bool.{both, ok-eq}
-use Rattle.ops.specs.Machine.{maxInstrs, maxFresh, maxWords}
-use Rattle.rules.specs.Table.{constants, entryAt, externals, freshAt, freshCount, size, tableLength, workings}
-use Rattle.rules.specs.Check.{layoutOk, tableOk}
+use Rattle.rules.specs.Table.{entryAt, freshAt, freshCount, size}
+use Rattle.rules.specs.Check.{tableOk}
 use Rattle.rules.specs.Snapshot.{freshList}
-use Rattle.rules.proofs.Files.{TableLimits, table-limits}
-
--- the sizes of a lawful table
-pub record Sizes (t : List ℕ) : Type 0 where
-  pub instrs : t at 0 ≤ maxInstrs
-  pub fresh : t at 3 ≤ maxFresh
-  pub own : t at 1 + t at 2 ≤ maxWords
-  pub inside : 8 + 8 * t at 0 + t at 3 ≤ length t
-
--- a table that passes its check has them
-pub sizes : (t : List ℕ) → Ok (tableOk t) → Sizes t
-unfolding tableOk layoutOk tableLength size freshCount constants workings externals
-sizes t ok =
-    let e : length t ≡ tableLength t = ok-eq _ _ (search both depth 9) in
-    let l : TableLimits t = table-limits t ok in
-    record { instrs = l .instrs; fresh = l .fresh; own = l .own; inside = omega arith }
+use Rattle.loading.proofs.Sizes.{sizes}
 
 -- the fresh addresses are a part of the table
 freshList-from : (t : List ℕ) (i k : ℕ) → entryAt (size t) + i + k ≤ length t → take k (drop (entryAt (size t) + i) t) ≡ freshList t i k

@@ -2,12 +2,12 @@
 -- Assumes nothing.
 use Prim.Native.Nat.{ℕ, _+_, _≤_}
 use mathlib.Core.Path.{_≡_, refl, ap, _∙_}
-use mathlib.Core.Bool.{Bool, true, false, not}
+use mathlib.Core.Bool.{true, false}
 use mathlib.Core.List.{List}
 use native.Mathlib.Omega.{arith}
 use borrow.Author.Tests.{eq-eqb, ne-eqb}
 use lib.ListN.{length}
-use Rattle.base.specs.Test.{Ok, if}
+use Rattle.base.specs.Test.{Ok}
 use Rattle.base.proofs.Bool.{and-l}
 use Rattle.rules.specs.Number.{Refusal, badTable, badTrailer, otherProgram, badFrozen, freshCountOff, memoryLengthOff}
 use Rattle.rules.specs.State as Rules
@@ -19,21 +19,13 @@ use Rattle.rules.proofs.Bytes.{length-wordsIn}
 use Rattle.rules.proofs.Files.{state-limits}
 use Rattle.rules.proofs.Restores.{wakes-restore}
 use Rattle.states.specs.declared.State.{State}
-use Rattle.snapshot.specs.Views.{codeOf}
+use Rattle.states.specs.Views.{codeOf}
+use Rattle.states.proofs.Admits.{skip, stop}
 use Rattle.snapshot.specs.Answers.{Restores, answerOf, refusing}
 use Rattle.snapshot.specs.declared.waking.Answer.{Answer}
 use Rattle.snapshot.specs.declared.waking.Answer.the-variants.{Woken, BadTable, BadTrailer, OtherProgram, BadFrozen, FreshCountOff, MemoryLengthOff}
 use Rattle.snapshot.specs.declared.waking.Restored.{Restored}
 use Rattle.snapshot.proofs.Machines.{frozen-view}
-
--- a test that passes is passed over, and one that does not is the answer
-pub skip : {A : Type 0} (b : Bool) (r x : A) → b ≡ true → if (not b) r x ≡ x
-unfolding if
-skip b r x e = rw e
-
-pub stop : {A : Type 0} (b : Bool) (r x : A) → b ≡ false → if (not b) r x ≡ r
-unfolding if
-stop b r x e = rw e
 
 -- a refusal
 refuses : (t file : List ℕ) (build : ℕ) (fs lent : List ℕ) (r : Restored) (a : Answer) (e : Refusal)

@@ -2,40 +2,20 @@
 -- Assumes nothing.
 use Prim.Native.Nat.{ℕ}
 use mathlib.Core.Path.{_≡_}
-use mathlib.Core.Bool.{false}
 use mathlib.Core.List.{List}
-use lib.ListN.{length, replicate}
+use lib.ListN.{length}
 use Rattle.rules.specs.Number.{badTable, badState, shortRoom, badTrailer, otherProgram, badFrozen, freshCountOff, memoryLengthOff}
 use Rattle.rules.specs.State as Rules
 use Rattle.rules.specs.Snapshot as Snapshot
 use Rattle.rules.specs.Snapshot.{fileOf, filled, restoreOf, unwoken, unwritten, woken, writeOf}
 use Rattle.states.specs.declared.State.{State}
-use Rattle.states.specs.Views.{stateOf}
-use Rattle.snapshot.specs.Views.{codeOf}
+use Rattle.states.specs.Views.{blank, codeOf, stateOf}
 use Rattle.snapshot.specs.declared.waking.Answer.{Answer}
 use Rattle.snapshot.specs.declared.waking.Answer.the-variants.{Woken, BadTable, BadTrailer, OtherProgram, BadFrozen, FreshCountOff, MemoryLengthOff}
 use Rattle.snapshot.specs.declared.waking.Restored.{Restored}
 use Rattle.snapshot.specs.declared.writing.Written.{Written}
 use Rattle.snapshot.specs.declared.writing.Written.the-variants as written
 use Rattle.snapshot.specs.declared.writing.Written.the-variants.{Filled, BadState, ShortRoom}
-
--- the state that a refusal has
-unfoldable pub blank : State
-blank =
-    record {
-      xl = 0;
-      xr = 0;
-      xs = 0;
-      wa = 0;
-      wb = 0;
-      wc = 0;
-      ia = 0;
-      flag = false;
-      pc = 0;
-      waiting = false;
-      count = 0;
-      links = replicate 256 0;
-    }
 
 abbrev pub refusing : Answer → Restored
 refusing a = record { answer = a; state = blank }

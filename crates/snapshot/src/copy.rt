@@ -6,7 +6,7 @@ ghost use Rattle.base.specs.Lists.{same};
 ghost use Rattle.rules.specs.Snapshot.{bytesFrom, wordIn, wordsIn};
 ghost use Rattle.words.specs.Words.{bytesOf};
 ghost use Rattle.snapshot.specs.Buffers.{put};
-use super::layout::WORD;
+use loading::WORD;
 use words::bytes_of;
 use words::word_of;
 

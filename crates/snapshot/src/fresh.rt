@@ -1,19 +1,18 @@
-// Fresh words: 0 in a file, and the host's own in a woken memory. Memory is copied whole, and its few fresh words are set after [S The snapshot].
+// Fresh words are 0 in a file: memory is copied whole, and its few fresh words are set after [S The snapshot].
 ghost use mathlib.Core.Path.{_≡_};
 ghost use Prim.Native.Nat.{_+_, _*_, _≤_};
 ghost use lib.ListN.{length};
 ghost use Rattle.base.specs.Test.{Ok};
 ghost use Rattle.rules.specs.Check.{tableOk};
 ghost use Rattle.rules.specs.Snapshot.{bytesFrom, freshHidden, hidden, wordsIn};
-ghost use Rattle.rules.specs.Start.{refreshed};
 ghost use Rattle.rules.specs.Table.{constants, freshCount, workings};
 ghost use Rattle.snapshot.specs.Buffers.{put};
 use super::copy::read_word;
 use super::copy::write_word;
 use super::copy::write_words;
-use super::layout::WORD;
-use super::layout::fresh_count;
-use super::layout::fresh_index;
+use loading::WORD;
+use loading::fresh_count;
+use loading::fresh_index;
 
 // Memory at the front of the file, its fresh words as 0.
 pub fn write_memory(file: &mut [u8], table: &[u32], memory: &[u32])
@@ -43,18 +42,4 @@ pub fn fresh_hidden(file: &[u8], at: usize, m: usize, table: &[u32]) -> bool
         i += 1;
     }
     true
-}
-
-// The host's fresh words in memory.
-pub fn supply(memory: &mut [u32], table: &[u32], fresh: &[u32])
-    requires { ⌜ Ok (tableOk (now table)) × (constants (now table) + workings (now table) ≤ length (now memory)) × (length (now fresh) ≡ freshCount (now table)) ⌝ }
-    ensures { λ r. ⌜ now (memory .exit) ≡ refreshed (now (table .entry)) (now (fresh .entry)) (now (memory .entry)) ⌝ }
-{
-    let f = fresh_count(table);
-    let mut i: usize = 0;
-    while i < f {
-        let at = fresh_index(table, i);
-        memory[at] = fresh[i];
-        i += 1;
-    }
 }

@@ -6,7 +6,7 @@ ghost use lib.ListN.{replicate};
 ghost use Rattle.base.specs.Test.{Ok};
 ghost use Rattle.rules.specs.Check.{tableOk};
 ghost use Rattle.rules.specs.Snapshot.{frozenIn, frozenOk, linksFrom, linksIn, trailerOk, wordsIn};
-ghost use Rattle.snapshot.specs.Views.{codeOf};
+ghost use Rattle.states.specs.Views.{codeOf};
 use super::copy::read_words;
 use super::fresh::fresh_hidden;
 use super::layout::index;
@@ -28,13 +28,7 @@ use super::trailer::trailer_word;
 use ops::machine::Machine;
 use states::State;
 use states::check::state_ok;
-
-// No links.
-pub fn no_links() -> [u32; 256]
-    ensures { λ r. ⌜ r ≡ replicate 256 0 ⌝ }
-{
-    [0u32; 256]
-}
+use states::no_links;
 
 // The links of a file, oldest first, and 0 behind them.
 pub fn frozen_links(file: &[u8]) -> [u32; 256]

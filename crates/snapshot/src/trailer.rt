@@ -8,11 +8,11 @@ ghost use Rattle.rules.specs.Snapshot.{freshFrom, linksFrom, memoryFrom, samePr
 use super::copy::read_word;
 use super::copy::same_words;
 use super::layout::TRAILER;
-use super::layout::WORD;
 use super::layout::file_length;
-use super::layout::fresh_base;
-use super::layout::fresh_count;
 use super::layout::index;
+use loading::WORD;
+use loading::fresh_base;
+use loading::fresh_count;
 use ops::machine::Machine;
 
 // The words of the trailer, in their order.

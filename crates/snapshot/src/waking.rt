@@ -2,19 +2,18 @@
 ghost use mathlib.Core.Path.{_≡_};
 ghost use Rattle.base.specs.Test.{Ok};
 ghost use Rattle.rules.specs.Check.{tableOk};
-ghost use Rattle.snapshot.specs.Answers.{Restores, blank, refusing};
+ghost use Rattle.snapshot.specs.Answers.{Restores, refusing};
 use super::copy::read_words;
-use super::fresh::supply;
 use super::frozen::frozen_ok;
 use super::frozen::frozen_state;
-use super::frozen::no_links;
-use super::layout::fresh_count;
 use super::layout::index;
 use super::trailer::MEMORY;
 use super::trailer::memory_from;
 use super::trailer::same_program;
 use super::trailer::trailer_ok;
 use super::trailer::trailer_word;
+use loading::fresh_count;
+use loading::supply;
 use states::State;
 
 // What restore answers: a machine is woken, or why not, with the numbers 30, 40, 41, 42, 43, 44.
@@ -34,32 +33,11 @@ pub struct Restored {
     pub state: State,
 }
 
-// The state that a refusal has: nothing but 0.
-pub fn blank_state() -> State
-    ensures { λ r. ⌜ r ≡ blank ⌝ }
-{
-    let links = no_links();
-    State {
-        xl: 0,
-        xr: 0,
-        xs: 0,
-        wa: 0,
-        wb: 0,
-        wc: 0,
-        ia: 0,
-        flag: false,
-        pc: 0,
-        waiting: false,
-        count: 0,
-        links,
-    }
-}
-
 // A refusal.
 pub fn refused(answer: Answer) -> Restored
     ensures { λ r. ⌜ r ≡ refusing answer ⌝ }
 {
-    let state = blank_state();
+    let state = State::blank();
     Restored { answer, state }
 }
 

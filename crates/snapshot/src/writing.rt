@@ -12,11 +12,11 @@ ghost use Rattle.snapshot.specs.Answers.{Writes};
 ghost use Rattle.snapshot.specs.Buffers.{put};
 use super::copy::write_words;
 use super::fresh::write_memory;
-use super::layout::WORD;
 use super::layout::file_length;
-use super::layout::fresh_base;
-use super::layout::fresh_count;
 use super::layout::index;
+use loading::WORD;
+use loading::fresh_base;
+use loading::fresh_count;
 use states::State;
 use states::check::state_ok;
 

@@ -1,6 +1,7 @@
 pub mod Admits
 pub mod Called
 pub mod Chained
+pub mod Coded
 pub mod Front
 pub mod Judged
 pub mod Laws

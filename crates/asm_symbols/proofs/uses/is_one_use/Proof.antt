@@ -1,16 +1,15 @@
 -- `asm_symbols::uses::is_one_use`: the fields above the line are none, one, two or more.
 -- Assumes nothing.
 use Prim.Native.Nat.{_*_, _+_, _<_}
-use mathlib.Core.Path.{_∙_, _≡_, ap, refl, sym}
-use mathlib.Core.List.{List, [], _∷_}
+use mathlib.Core.Path.{_∙_, _≡_, refl, sym}
+use mathlib.Core.List.{[]}
 use native.Mathlib.Omega.{arith}
 use borrow.Author.Needs.{needs}
 use lib.ListN.{getD}
-use Rattle.language.specs.Symbol.{Symbol, above, fieldsNamed}
-use Rattle.asm_types.specs.Views.{symbolAt, symbolsIn}
-use Rattle.asm_symbols.specs.Walk.{aboveFrom}
+use Rattle.language.specs.Symbol.{above, fieldsNamed}
+use Rattle.asm_types.specs.Views.{symbolsIn}
 use Rattle.asm_symbols.proofs.Sorts.{pairs-by, third-is, third-not, two-by}
-use Rattle.asm_symbols.proofs.Walks.{above-all, next-here, next-none}
+use Rattle.asm_symbols.proofs.Walks.{above-all, above-one, above-two, next-here, next-none}
 use Rattle.asm_symbols.proofs.uses.is_one_use.Statement.{statement}
 use Rattle.asm_symbols.proofs.uses.is_one_use.Tie as tie
 use Rattle.asm_symbols.proofs.uses.is_one_use.Reads as reads
@@ -60,8 +59,7 @@ returns-2 c =
     let l = c .before .before .before .before .before .before .before .args .line in
     let i = c .before .before .before .before .before .next-above .result in
     let h : i < n = omega (arith, c .before .before .before .before .before .next-above .ensures .inside) in
-    let e : above l (fieldsNamed k (symbolsIn xs n)) ≡ symbolAt xs i ∷ [] = sym (above-all xs n k l) ∙ next-here xs n 0 k l i (c .before .before .before .before .before .next-above .ensures) h ∙ ap (λ (ys : List Symbol). symbolAt xs i ∷ ys) (next-none xs n (i + 1) k l (c .before .before .next-above2 .result) (c .before .before .next-above2 .ensures) (omega arith)) in
-    c .is-pair .ensures ∙ sym (rw e (pairs-by (getD xs (5 * i + 2) 0) (c .before .before .before .before .before .before .before .args .sort) (c .before .before .before .before .before .before .before .pre .0 .sorts i h) (c .before .before .before .before .before .before .before .pre .1)))
+    c .is-pair .ensures ∙ sym (rw (above-one xs n k l i (c .before .before .next-above2 .result) (c .before .before .before .before .before .next-above .ensures) (c .before .before .next-above2 .ensures) h (omega arith)) (pairs-by (getD xs (5 * i + 2) 0) (c .before .before .before .before .before .before .before .args .sort) (c .before .before .before .before .before .before .before .pre .0 .sorts i h) (c .before .before .before .before .before .before .before .pre .1)))
 
 mul-b : tie.Need-mul-b
 mul-b c = search needs
@@ -88,11 +86,10 @@ returns-3 c =
     let k = c .before .before .before .before .before .before .before .before .before .args .k in
     let l = c .before .before .before .before .before .before .before .before .before .args .line in
     let i = c .before .before .before .before .before .before .before .next-above .result in
-    let j = c .before .before .before .before .next-above2 .result in
     let h : i < n = omega (arith, c .before .before .before .before .before .before .before .next-above .ensures .inside) in
+    let j = c .before .before .before .before .next-above2 .result in
     let g : j < n = omega (arith, c .before .before .before .before .next-above2 .ensures .inside) in
-    let e : above l (fieldsNamed k (symbolsIn xs n)) ≡ symbolAt xs i ∷ symbolAt xs j ∷ symbolAt xs (c .before .next-above3 .result) ∷ aboveFrom xs n (c .before .next-above3 .result + 1) k l = sym (above-all xs n k l) ∙ next-here xs n 0 k l i (c .before .before .before .before .before .before .before .next-above .ensures) h ∙ ap (λ (ys : List Symbol). symbolAt xs i ∷ ys) (next-here xs n (i + 1) k l j (c .before .before .before .before .next-above2 .ensures) g ∙ ap (λ (ys : List Symbol). symbolAt xs j ∷ ys) (next-here xs n (j + 1) k l (c .before .next-above3 .result) (c .before .next-above3 .ensures) (c .if3 .taken))) in
-    rw e refl
+    rw (above-two xs n k l i j (c .before .before .before .before .before .before .before .next-above .ensures) (c .before .before .before .before .next-above2 .ensures) h g, next-here xs n (j + 1) k l (c .before .next-above3 .result) (c .before .next-above3 .ensures) (c .if3 .taken)) refl
 
 returns-4 : tie.Need-returns-4
 returns-4 c =
@@ -101,11 +98,10 @@ returns-4 c =
     let k = c .before .before .before .before .before .before .before .before .before .before .args .k in
     let l = c .before .before .before .before .before .before .before .before .before .before .args .line in
     let i = c .before .before .before .before .before .before .before .before .next-above .result in
-    let j = c .before .before .before .before .before .next-above2 .result in
     let h : i < n = omega (arith, c .before .before .before .before .before .before .before .before .next-above .ensures .inside) in
+    let j = c .before .before .before .before .before .next-above2 .result in
     let g : j < n = omega (arith, c .before .before .before .before .before .next-above2 .ensures .inside) in
-    let e : above l (fieldsNamed k (symbolsIn xs n)) ≡ symbolAt xs i ∷ symbolAt xs j ∷ [] = sym (above-all xs n k l) ∙ next-here xs n 0 k l i (c .before .before .before .before .before .before .before .before .next-above .ensures) h ∙ ap (λ (ys : List Symbol). symbolAt xs i ∷ ys) (next-here xs n (i + 1) k l j (c .before .before .before .before .before .next-above2 .ensures) g ∙ ap (λ (ys : List Symbol). symbolAt xs j ∷ ys) (next-none xs n (j + 1) k l (c .before .before .next-above3 .result) (c .before .before .next-above3 .ensures) (c .before .if3 .left))) in
-    rw e (sym (third-not _ (c .before .before .before .before .before .before .before .before .before .before .args .sort) (c .before .before .before .before .before .before .before .before .before .before .pre .1) (c .if4 .taken)))
+    rw (above-two xs n k l i j (c .before .before .before .before .before .before .before .before .next-above .ensures) (c .before .before .before .before .before .next-above2 .ensures) h g, next-none xs n (j + 1) k l (c .before .before .next-above3 .result) (c .before .before .next-above3 .ensures) (c .before .if3 .left)) (sym (third-not _ (c .before .before .before .before .before .before .before .before .before .before .args .sort) (c .before .before .before .before .before .before .before .before .before .before .pre .1) (c .if4 .taken)))
 
 is-routine-global-requires : tie.Need-is-routine-global-requires
 is-routine-global-requires c κs = search needs
@@ -117,11 +113,10 @@ returns-5 c =
     let k = c .before .before .before .before .before .before .before .before .before .before .before .args .k in
     let l = c .before .before .before .before .before .before .before .before .before .before .before .args .line in
     let i = c .before .before .before .before .before .before .before .before .before .next-above .result in
-    let j = c .before .before .before .before .before .before .next-above2 .result in
     let h : i < n = omega (arith, c .before .before .before .before .before .before .before .before .before .next-above .ensures .inside) in
+    let j = c .before .before .before .before .before .before .next-above2 .result in
     let g : j < n = omega (arith, c .before .before .before .before .before .before .next-above2 .ensures .inside) in
-    let e : above l (fieldsNamed k (symbolsIn xs n)) ≡ symbolAt xs i ∷ symbolAt xs j ∷ [] = sym (above-all xs n k l) ∙ next-here xs n 0 k l i (c .before .before .before .before .before .before .before .before .before .next-above .ensures) h ∙ ap (λ (ys : List Symbol). symbolAt xs i ∷ ys) (next-here xs n (i + 1) k l j (c .before .before .before .before .before .before .next-above2 .ensures) g ∙ ap (λ (ys : List Symbol). symbolAt xs j ∷ ys) (next-none xs n (j + 1) k l (c .before .before .before .next-above3 .result) (c .before .before .before .next-above3 .ensures) (c .before .before .if3 .left))) in
-    c .is-routine-global .ensures ∙ sym (rw e (third-is _ (c .before .before .before .before .before .before .before .before .before .before .before .args .sort) (c .before .if4 .left) ∙ two-by (getD xs (5 * i + 2) 0) (getD xs (5 * j + 2) 0) (c .before .before .before .before .before .before .before .before .before .before .before .pre .0 .sorts i h) (c .before .before .before .before .before .before .before .before .before .before .before .pre .0 .sorts j g)))
+    c .is-routine-global .ensures ∙ sym (rw (above-two xs n k l i j (c .before .before .before .before .before .before .before .before .before .next-above .ensures) (c .before .before .before .before .before .before .next-above2 .ensures) h g, next-none xs n (j + 1) k l (c .before .before .before .next-above3 .result) (c .before .before .before .next-above3 .ensures) (c .before .before .if3 .left)) (third-is _ (c .before .before .before .before .before .before .before .before .before .before .before .args .sort) (c .before .if4 .left) ∙ two-by (getD xs (5 * i + 2) 0) (getD xs (5 * j + 2) 0) (c .before .before .before .before .before .before .before .before .before .before .before .pre .0 .sorts i h) (c .before .before .before .before .before .before .before .before .before .before .before .pre .0 .sorts j g)))
 
 pub is-one-use-spec : {M : Type 1} → statement M
 is-one-use-spec =

@@ -6,7 +6,8 @@ use borrow.Author.Tests.{eq-eqb, ne-eqb}
 use Rattle.rules.specs.Snapshot.{sameProgram}
 use Rattle.rules.specs.Table.{freshCount, size}
 use Rattle.rules.proofs.Files.{length-freshList}
-use Rattle.snapshot.proofs.Tables.{sizes, fresh-part, fresh-inside}
+use Rattle.loading.proofs.Sizes.{sizes}
+use Rattle.snapshot.proofs.Tables.{fresh-part, fresh-inside}
 use Rattle.snapshot.proofs.Trailers.{and-yes, and-no, same-program, trailed}
 use borrow.Author.Needs.{needs}
 use Rattle.snapshot.proofs.trailer.same_program.Statement.{statement}

@@ -4,7 +4,7 @@ use mathlib.Core.Path.{_≡_}
 use native.Mathlib.Omega.{arith}
 use lib.ListN.{length}
 use Rattle.rules.specs.Table.{freshCount, size}
-use Rattle.snapshot.proofs.Tables.{sizes}
+use Rattle.loading.proofs.Sizes.{sizes}
 use Rattle.snapshot.proofs.Writings.{measured}
 use borrow.Author.Needs.{needs}
 use Rattle.snapshot.proofs.writing.trailer_words.Statement.{statement}

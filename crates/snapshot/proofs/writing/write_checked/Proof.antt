@@ -10,7 +10,7 @@ use Rattle.rules.specs.State.{stateOk}
 use Rattle.rules.specs.Table.{freshCount}
 use Rattle.states.specs.Views.{stateOf}
 use Rattle.snapshot.proofs.Answering.{unwritten-room, unwritten-state, written-file}
-use Rattle.snapshot.proofs.Tables.{sizes}
+use Rattle.loading.proofs.Sizes.{sizes}
 use Rattle.snapshot.proofs.Writings.{measured}
 use borrow.Author.Needs.{needs}
 use Rattle.snapshot.proofs.writing.write_checked.Statement.{statement}

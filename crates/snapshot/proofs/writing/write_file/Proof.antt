@@ -13,8 +13,8 @@ use Rattle.snapshot.proofs.writing.write_file.Reads as reads
 use Rattle.snapshot.proofs.writing.write_file.Lts as lts
 use Rattle.snapshot.proofs.copy.write_words.Reads as write-words-reads
 use Rattle.snapshot.proofs.fresh.write_memory.Reads as write-memory-reads
-use Rattle.snapshot.proofs.layout.fresh_base.Reads as fresh-base-reads
-use Rattle.snapshot.proofs.layout.fresh_count.Reads as fresh-count-reads
+use Rattle.loading.proofs.fresh_base.Reads as fresh-base-reads
+use Rattle.loading.proofs.fresh_count.Reads as fresh-count-reads
 use Rattle.snapshot.proofs.layout.index.Reads as index-reads
 use Rattle.snapshot.proofs.writing.trailer_words.Reads as trailer-words-reads
 

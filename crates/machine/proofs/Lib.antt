@@ -1,0 +1,4 @@
+pub mod Looping
+pub mod Packed
+pub mod Promised
+pub mod Exited

@@ -1,0 +1,54 @@
+-- What start promises: its answer, its state, and each word that is lent to it [S The house machine].
+-- Assumes nothing.
+use Prim.Native.Nat.{ℕ}
+use mathlib.Core.Path.{_≡_}
+use mathlib.Core.List.{List}
+use Rattle.rules.specs.Number.{Verdict, granted, refusedBy, refusalNumber, badTable, unfitMemory, freshCountOff}
+use Rattle.rules.specs.State as Rules
+use Rattle.rules.specs.Start as Start
+use Rattle.rules.specs.Start.{begun, unbegun, startOf}
+use Rattle.states.specs.declared.State.{State}
+use Rattle.states.specs.Views.{blank, codeOf, stateOf}
+use Rattle.starting.specs.declared.Answer.{Answer}
+use Rattle.starting.specs.declared.Answer.the-variants.{Begun, BadTable, UnfitMemory, FreshCountOff}
+use Rattle.starting.specs.declared.Started.{Started}
+
+-- each answer's case of the rules
+abbrev pub verdictOf : Answer → Verdict
+verdictOf Begun = granted
+verdictOf BadTable = refusedBy badTable
+verdictOf UnfitMemory = refusedBy unfitMemory
+verdictOf FreshCountOff = refusedBy freshCountOff
+
+-- its number: 0 for a program that has begun
+abbrev pub numberOf : Verdict → ℕ
+numberOf granted = 0
+numberOf (refusedBy e) = refusalNumber e
+
+-- the rules' view of an answer, with the state that it has if the program has begun
+abbrev pub answerOf : Verdict → Rules.State → Start.Started
+answerOf granted s = begun s
+answerOf (refusedBy e) s = unbegun e
+
+abbrev pub startedOf : Started → List ℕ → Start.Started
+startedOf r mem = answerOf (verdictOf (r .answer)) (stateOf (r .state) mem)
+
+abbrev pub refusing : Answer → Started
+refusing a = record { answer = a; state = blank }
+
+-- the lent memory afterwards: the started machine's, or as it was
+abbrev pub memoryAfter : Start.Started → List ℕ → List ℕ
+memoryAfter (begun s) lent = s .core .mem
+memoryAfter (unbegun e) lent = lent
+
+-- the code's state afterwards: the started machine's, or blank
+abbrev pub stateAfter : Start.Started → State
+stateAfter (begun s) = codeOf s
+stateAfter (unbegun e) = blank
+
+-- start's promise: its answer and machine, the lent memory and the state are those of the definition, refusals included.
+-- Two wrong answers that it rules out: a lent word behind the program's own that is cleared, and 43 where memory does not fit either.
+pub record Starts (t lent fs : List ℕ) (x : ℕ) (r : Started) (after : List ℕ) : Type 0 where
+  pub answer : startedOf r after ≡ startOf t lent fs x
+  pub memory : after ≡ memoryAfter (startOf t lent fs x) lent
+  pub state : r .state ≡ stateAfter (startOf t lent fs x)
