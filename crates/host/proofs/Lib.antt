@@ -1,4 +1,5 @@
 pub mod Answers
+pub mod Calls
 pub mod Copies
 pub mod Freezes
 pub mod Links

@@ -1,3 +1,4 @@
 pub mod Answer
 pub mod Freezing
 pub mod Lent
+pub mod Running
