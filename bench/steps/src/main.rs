@@ -96,9 +96,15 @@ fn one_step() {
     let mut memory = vec![0; MEMORY];
     let mut state = vec![0; sys::STATE_WORDS];
     assert_eq!(sys::start(&table, &mut memory, &[], 0, &mut state), 0);
-    let check = call(|| drop(black_box(sys::check_table(&table))));
-    let states = call(|| drop(black_box(sys::check_state(&table, MEMORY, &state))));
-    let run = call(|| drop(black_box(sys::run(&table, &mut memory, &mut state, 1))));
+    let check = call(|| {
+        black_box(sys::check_table(&table));
+    });
+    let states = call(|| {
+        black_box(sys::check_state(&table, MEMORY, &state));
+    });
+    let run = call(|| {
+        black_box(sys::run(&table, &mut memory, &mut state, 1));
+    });
     println!("check_table        {:7.2} {:7.2}", check.0, check.1);
     println!("check_state        {:7.2} {:7.2}", states.0, states.1);
     println!("run with budget 1  {:7.2} {:7.2}", run.0, run.1);
