@@ -2,3 +2,4 @@ pub mod Looping
 pub mod Packed
 pub mod Promised
 pub mod Exited
+pub mod Promises
