@@ -3,21 +3,14 @@ ghost use mathlib.Core.Path.{_≡_};
 ghost use Prim.Native.Nat.{_≤_};
 ghost use mathlib.Core.List.{[]};
 ghost use lib.ListN.{length};
-ghost use Rattle.rules.specs.Snapshot as Snapshot;
 ghost use Rattle.states.specs.Views.{codeOf, stateOf, wordsOf};
 ghost use Rattle.exec_core.specs.Seen.{linksIn};
 ghost use Rattle.machine.specs.Packing.{Linked, Packable, bare};
 use bodies::entry::index;
 use ops::machine::Machine;
 use states::State;
+use states::bit;
 use states::no_links;
-
-// A test as a word.
-pub fn bit(b: bool) -> u32
-    ensures { λ r. ⌜ r ≡ Snapshot.bit b ⌝ }
-{
-    if b { 1 } else { 0 }
-}
 
 // The words of one slice in another of the same length.
 pub fn copy_words(from: &[u32], to: &mut [u32])

@@ -18,6 +18,7 @@ use loading::WORD;
 use loading::fresh_base;
 use loading::fresh_count;
 use states::State;
+use states::bit;
 use states::check::state_ok;
 
 // What the writer answers: the length L of the file, or why there is none, with the numbers 30, 31, 45.
@@ -26,13 +27,6 @@ pub enum Written {
     BadTable,
     BadState,
     ShortRoom,
-}
-
-// A test as a word.
-pub fn bit(b: bool) -> u32
-    ensures { λ r. ⌜ r ≡ Snapshot.bit b ⌝ }
-{
-    if b { 1 } else { 0 }
 }
 
 // The words of the trailer.

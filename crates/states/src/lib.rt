@@ -4,6 +4,7 @@ ghost use mathlib.Core.Path.{_≡_};
 ghost use lib.ListN.{replicate};
 ghost use Rattle.base.specs.Test.{Ok};
 ghost use Rattle.rules.specs.Check.{tableOk};
+ghost use Rattle.rules.specs.Snapshot as Snapshot;
 ghost use Rattle.rules.specs.State.{memoryFits};
 ghost use Rattle.states.specs.Views.{blank, freshOf};
 use bodies::entry::CONSTANTS;
@@ -34,6 +35,13 @@ pub struct State {
 
 // The word of a table's header with the start of section 4.
 const SECTION_4: usize = 5;
+
+// A test as a word.
+pub fn bit(b: bool) -> u32
+    ensures { λ r. ⌜ r ≡ Snapshot.bit b ⌝ }
+{
+    if b { 1 } else { 0 }
+}
 
 // No links.
 pub fn no_links() -> [u32; 256]
