@@ -9,8 +9,8 @@ ghost use lib.ListN.{drop};
 ghost use Rattle.snapshot.specs.Buffers.{put};
 ghost use Rattle.host.specs.Lent.{codeFrom, headOf, lawful, linksIn, wordsFrom};
 use ops::machine::Machine;
-use snapshot::writing::bit;
 use states::State;
+use states::bit;
 
 // Where each word stands.
 const XL: usize = 0;

@@ -5,7 +5,7 @@ use Rattle.host.proofs.lent.head_of.Statement.{statement}
 use Rattle.host.proofs.lent.head_of.Tie as tie
 use Rattle.host.proofs.lent.head_of.Reads as reads
 use Rattle.host.proofs.lent.head_of.Lts as lts
-use Rattle.snapshot.proofs.writing.bit.Reads as bit-reads
+use Rattle.states.proofs.bit.Reads as bit-reads
 
 -- src/lent.rt:104:9
 bit-requires : tie.Need-bit-requires
