@@ -30,16 +30,18 @@ use asm_types::Reader;
 use ops::table::Operations;
 use words::words_for;
 
-// The values of `opened` in sections 0, 2, 3 and 4; SEC opens a section up to the last.
+// The values of `opened` in sections 0 and 2 to 5; SEC opens a section up to the last.
 const SECTION_0: u32 = 1;
 
-const SECTION_2: u32 = 3;
+pub const SECTION_2: u32 = 3;
 
-const SECTION_3: u32 = 4;
+pub const SECTION_3: u32 = 4;
 
-const SECTION_4: u32 = 5;
+pub const SECTION_4: u32 = 5;
 
-const LAST: u32 = 7;
+pub const SECTION_5: u32 = 6;
+
+pub const LAST: u32 = 7;
 
 // A label counts by its field alone, but for skipped lines.
 fn label_by(o: Operation, s: &[u8]) -> u64
@@ -137,7 +139,7 @@ pub fn word_count(c: Card, s: &[u8]) -> u32
 }
 
 // A test as a count.
-fn one(b: bool) -> u32
+pub fn one(b: bool) -> u32
     ensures { λ r. ⌜ (r ≡ Cards.one b) × (r ≤ 1) ⌝ }
 {
     if b {

@@ -1,6 +1,7 @@
 // What a label field makes of its name, by operation and section [S Cards].
 ghost use mathlib.Core.Path.{_≡_};
 ghost use mathlib.Core.List.{map};
+ghost use Prim.Native.Nat.{_≤_};
 ghost use Rattle.ops.specs.Ops.{rows, cellsOf};
 ghost use Rattle.language.specs.Symbol as Symbol;
 ghost use Rattle.asm_types.specs.Views.{operationView, sortAt};
@@ -16,7 +17,7 @@ use ops::table::Operations;
 
 // In section 0.
 fn declared_sort(o: Operation) -> u64
-    ensures { λ r. ⌜ sortAt r ≡ Symbol.declaredSort (operationView o) ⌝ }
+    ensures { λ r. ⌜ (sortAt r ≡ Symbol.declaredSort (operationView o)) × (r ≤ 11) ⌝ }
 {
     let n = code_of(o);
     if n == Assembly::EXP {
@@ -37,7 +38,7 @@ fn declared_sort(o: Operation) -> u64
 // In sections 4 to 6.
 fn placed_sort(list: &Operations, o: Operation) -> u64
     requires { ⌜ now list ≡ map cellsOf rows ⌝ }
-    ensures { λ r. ⌜ sortAt r ≡ Symbol.placedSort (operationView o) ⌝ }
+    ensures { λ r. ⌜ (sortAt r ≡ Symbol.placedSort (operationView o)) × (r ≤ 11) ⌝ }
 {
     let k = class_of(list, o);
     if k == class::ENT {
@@ -58,7 +59,7 @@ fn placed_sort(list: &Operations, o: Operation) -> u64
 // The sort of a card's label; `opened` counts the SEC cards above.
 pub fn sort_of(list: &Operations, opened: u32, o: Operation) -> u64
     requires { ⌜ now list ≡ map cellsOf rows ⌝ }
-    ensures { λ r. ⌜ sortAt r ≡ Symbol.sortAt opened (operationView o) ⌝ }
+    ensures { λ r. ⌜ (sortAt r ≡ Symbol.sortAt opened (operationView o)) × (r ≤ 11) ⌝ }
 {
     if is_divider(o) {
         return Sort::BARE;

@@ -25,7 +25,7 @@ use Rattle.ops.proofs.Every.{every, every-at}
 use Rattle.rules.specs.Check.{registerOk, valueOk, operandOk, thirdOk, fieldsOk, apart}
 use Rattle.rules.specs.Table.{size, field, classAt}
 use Rattle.entries.specs.Below.{below}
-use Rattle.entries.specs.Coded.{takesKind, lastOf, largestOf, operandBy, thirdBy, entryBy, entryOk}
+use Rattle.entries.specs.Coded.{takesKind, lastOf, largestOf, operandBy, thirdBy, fieldsBy, entryBy, entryOk}
 use Rattle.entries.proofs.Belows.{below-at}
 
 -- two tests agree
@@ -137,6 +137,16 @@ fields-none t p (r ∷ rs) s e = go (fields-none t p rs (suc s)) (eqb (field t p
     go ih true q = absurd (row-known (rw q at e))
     go ih false q = rw q (ih (rw q at e))
 
+class-none : (k : ℕ) (rs : List Row) (s : ℕ) → firstWith byNumber k s rs ≡ found.Unknown → classIn k rs ≡ none
+unfolding if
+class-none k [] s e = refl
+class-none k (r ∷ rs) s e = go (class-none k rs (suc s)) (eqb k (r .number)) refl
+  where
+    go : (firstWith byNumber k (suc s) rs ≡ found.Unknown → classIn k rs ≡ none) → (b : Bool) → eqb k (r .number) ≡ b
+        → classIn k (r ∷ rs) ≡ none
+    go ih true q = absurd (row-known (rw q at e))
+    go ih false q = rw q (ih (rw q at e))
+
 op-is : (t : List ℕ) (p : ℕ) → field t p 0 ≡ getD t (8 + 8 * p) 0
 unfolding field
 op-is t p = rw (add-zero (8 + 8 * p)) refl
@@ -149,9 +159,9 @@ module _ (t : List ℕ) (p i : ℕ) (e : rowOfNumber (getD t (8 + 8 * p) 0) ≡ 
   row-says : Ok (rowSays i (rowAt i))
   row-says = every-at rowSays noRow rows all-say i (number-exactly _ i .0 e .0)
 
-  pub entry-is : entryOk t p ≡ entryBy t p (formatWord (rowAt i .one)) (formatWord (rowAt i .two)) (formatWord (rowAt i .three))
-  unfolding entryOk entryBy rowFields rowSays says rowOfNumber
-  entry-is =
+  pub fields-is : fieldsOk t p rows ≡ fieldsBy t p (formatWord (rowAt i .one)) (formatWord (rowAt i .two)) (formatWord (rowAt i .three))
+  unfolding fieldsBy rowFields rowSays says rowOfNumber
+  fields-is =
       let g : firstWith byNumber (field t p 0) 0 rows ≡ found.Row i = rw (op-is t p) e in
       let z : i - 0 ≡ i = omega arith in
       let f : fieldsOk t p rows ≡ rowFields t p (rowAt i) = fields-in t p rows 0 i g ∙ rw z refl in
@@ -165,16 +175,32 @@ module _ (t : List ℕ) (p i : ℕ) (e : rowOfNumber (getD t (8 + 8 * p) 0) ≡ 
 
   -- the same by a row of the constant table
   module _ (cells : List ℕ) (q : cells ≡ cellsOf (rowAt i)) where
+    pub fields-cells : fieldsOk t p rows ≡ fieldsBy t p (getD cells 3 0) (getD cells 4 0) (getD cells 5 0)
+    fields-cells = rw q fields-is
+
     pub entry-cells : entryOk t p ≡ entryBy t p (getD cells 3 0) (getD cells 4 0) (getD cells 5 0)
-    entry-cells = rw q entry-is
+    unfolding entryOk entryBy
+    entry-cells = rw fields-cells refl
 
     pub class-cells : p < getD t 0 0 → getD cells 2 0 ≡ classCode (classAt t p)
     class-cells l = rw q (class-is l)
 
-pub entry-unknown : (t : List ℕ) (p : ℕ) → rowOfNumber (getD t (8 + 8 * p) 0) ≡ found.Unknown → entryOk t p ≡ false
-unfolding entryOk rowOfNumber _and_
-entry-unknown t p e =
-    let g : firstWith byNumber (field t p 0) 0 rows ≡ found.Unknown = rw (op-is t p) e in rw (fields-none t p rows 0 g) refl
+-- an operation that no row has
+module _ (t : List ℕ) (p : ℕ) (e : rowOfNumber (getD t (8 + 8 * p) 0) ≡ found.Unknown) where
+  pub fields-unknown : fieldsOk t p rows ≡ false
+  unfolding rowOfNumber
+  fields-unknown =
+      let g : firstWith byNumber (field t p 0) 0 rows ≡ found.Unknown = rw (op-is t p) e in fields-none t p rows 0 g
+
+  pub entry-unknown : entryOk t p ≡ false
+  unfolding entryOk _and_
+  entry-unknown = rw fields-unknown refl
+
+  pub class-unknown : p < getD t 0 0 → 19 ≡ classCode (classAt t p)
+  unfolding classAt size rowOfNumber
+  class-unknown l =
+      let g : classIn (field t p 0) rows ≡ none = class-none (field t p 0) rows 0 (rw (op-is t p) e) in
+      ap classCode (sym (if-true (ltb p (getD t 0 0)) (classIn (field t p 0) rows) none (lt-ok p (getD t 0 0) l) ∙ g))
 
 -- past the last entry
 pub class-past : (t : List ℕ) → 19 ≡ classCode (classAt t (getD t 0 0))

@@ -33,12 +33,19 @@ operandBy t w k r v = takesKind w k and registerOk (formatOf w) k r and valueOk 
 unfoldable pub thirdBy : List ℕ → ℕ → ℕ → Bool
 thirdBy t w x = if (eqb x 0) (takesKind w noKind) (takesKind w placeKind and leb x (size t))
 
+-- the rules of one entry's operands by the words of its formats
+unfoldable pub fieldsBy : List ℕ → ℕ → ℕ → ℕ → ℕ → Bool
+fieldsBy t p a b d =
+    operandBy t a (field t p 1) (field t p 2) (field t p 3) and operandBy t b (field t p 4) (field t p 5) (field t p 6)
+    and thirdBy t d (field t p 7)
+
+-- its first two operands keep their registers apart
+abbrev pub apartAt : List ℕ → ℕ → Bool
+apartAt t p = apart (field t p 1) (field t p 2) (field t p 4) (field t p 5)
+
 -- the rules of one entry's fields by the words of its formats, and by its row
 unfoldable pub entryBy : List ℕ → ℕ → ℕ → ℕ → ℕ → Bool
-entryBy t p a b d =
-    (operandBy t a (field t p 1) (field t p 2) (field t p 3) and operandBy t b (field t p 4) (field t p 5) (field t p 6)
-    and thirdBy t d (field t p 7))
-    and apart (field t p 1) (field t p 2) (field t p 4) (field t p 5)
+entryBy t p a b d = fieldsBy t p a b d and apartAt t p
 
 unfoldable pub entryOk : List ℕ → ℕ → Bool
-entryOk t p = fieldsOk t p rows and apart (field t p 1) (field t p 2) (field t p 4) (field t p 5)
+entryOk t p = fieldsOk t p rows and apartAt t p

@@ -11,7 +11,7 @@ ghost use Rattle.rules.specs.Check.{among, registerOk, valueOk, apart};
 ghost use Rattle.rules.specs.Table.{constants, workings};
 ghost use Rattle.entries.specs.Laid.{Limited, Laid};
 ghost use Rattle.entries.specs.Classes.{Judged};
-ghost use Rattle.entries.specs.Coded.{takesKind, lastOf, largestOf, formatOf, operandBy, thirdBy, entryBy};
+ghost use Rattle.entries.specs.Coded.{takesKind, lastOf, largestOf, formatOf, operandBy, thirdBy, fieldsBy, apartAt, entryBy};
 use crate::layout::ENTRY;
 use crate::layout::HEADER;
 use crate::layout::index;
@@ -190,10 +190,10 @@ fn is_apart(k: u32, reg: u32, kind: u32, other: u32) -> bool
     !within(RISING_KIND, FALLING_KIND, kind)
 }
 
-// The fields of the entry at place p keep the rules of the formats of its three operands.
-fn entry_ok(table: &[u32], p: usize, one: u32, two: u32, three: u32) -> bool
+// The operands of the entry at place p keep the rules of their three formats.
+pub fn operands_ok(table: &[u32], p: usize, one: u32, two: u32, three: u32) -> bool
     requires { ⌜ Laid (now table) × (p < getD (now table) 0 0) ⌝ }
-    ensures { λ r. ⌜ r ≡ entryBy (now (table .entry)) p one two three ⌝ }
+    ensures { λ r. ⌜ r ≡ fieldsBy (now (table .entry)) p one two three ⌝ }
 {
     let b = HEADER + ENTRY * p;
     if !operand_ok(table, one, table[b + 1], table[b + 2], table[b + 3]) {
@@ -202,10 +202,27 @@ fn entry_ok(table: &[u32], p: usize, one: u32, two: u32, three: u32) -> bool
     if !operand_ok(table, two, table[b + 4], table[b + 5], table[b + 6]) {
         return false;
     }
-    if !third_ok(table, three, table[b + 7]) {
+    third_ok(table, three, table[b + 7])
+}
+
+// The first two operands of the entry at place p keep their registers apart.
+pub fn apart_at(table: &[u32], p: usize) -> bool
+    requires { ⌜ Laid (now table) × (p < getD (now table) 0 0) ⌝ }
+    ensures { λ r. ⌜ r ≡ apartAt (now (table .entry)) p ⌝ }
+{
+    let b = HEADER + ENTRY * p;
+    is_apart(table[b + 1], table[b + 2], table[b + 4], table[b + 5])
+}
+
+// The fields of the entry at place p keep the rules of the formats of its three operands.
+fn entry_ok(table: &[u32], p: usize, one: u32, two: u32, three: u32) -> bool
+    requires { ⌜ Laid (now table) × (p < getD (now table) 0 0) ⌝ }
+    ensures { λ r. ⌜ r ≡ entryBy (now (table .entry)) p one two three ⌝ }
+{
+    if !operands_ok(table, p, one, two, three) {
         return false;
     }
-    is_apart(table[b + 1], table[b + 2], table[b + 4], table[b + 5])
+    apart_at(table, p)
 }
 
 // The class of what stands past the last entry.

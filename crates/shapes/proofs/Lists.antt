@@ -61,12 +61,12 @@ chosen-none a b v e f = if-no _ _ _ e ∙ if-no _ _ _ f
 
 -- the callee of the JSR at p, whose operand has the value v
 module _ (t : List ℕ) (p v : ℕ) (e : v ≡ getD t (8 + 8 * p + 3) 0) where
-  names-place : (k : ℕ) → k ≡ classCode (classAt t v) → getD t (8 + 8 * p + 1) 0 ≡ 6 → namesProcedure t p ≡ eqb k 17
+  pub names-place : (k : ℕ) → k ≡ classCode (classAt t v) → getD t (8 + 8 * p + 1) 0 ≡ 6 → namesProcedure t p ≡ eqb k 17
   unfolding namesProcedure value field
   names-place k c q =
       and-yes _ _ (eq-eqb _ _ q) ∙ subst (λ (x : ℕ). is (classAt t x) (marks PRC) ≡ eqb k 17) e (is-code (classAt t v) (marks PRC) k c)
 
-  other-place : (getD t (8 + 8 * p + 1) 0 ≡ 6 → ⊥) → namesProcedure t p ≡ false
+  pub other-place : (getD t (8 + 8 * p + 1) 0 ≡ 6 → ⊥) → namesProcedure t p ≡ false
   unfolding namesProcedure field
   other-place h = and-no _ _ (ne-eqb _ _ h)
 
@@ -104,12 +104,12 @@ module _ (t : List ℕ) (p v : ℕ) (e : v ≡ getD t (8 + 8 * p + 3) 0) where
 count-differs : {A : Type 0} {k : ℕ} → exits.Count k ≡ exits.Unnamed → A
 count-differs e = let z : _≡_ {A = ℕ} 0 1 = cc in absurd (omega arith)
 
-callee-unnamed : (t : List ℕ) (c : Callee) → exitsOf t c ≡ exits.Unnamed → isNamed c ≡ false
+pub callee-unnamed : (t : List ℕ) (c : Callee) → exitsOf t c ≡ exits.Unnamed → isNamed c ≡ false
 callee-unnamed t (procedure q) e = count-differs e
 callee-unnamed t (external k) e = count-differs e
 callee-unnamed t unnamed e = refl
 
-callee-named : (t : List ℕ) (c : Callee) (k : ℕ) → exitsOf t c ≡ exits.Count k → (isNamed c ≡ true) × (declared t c ≡ k)
+pub callee-named : (t : List ℕ) (c : Callee) (k : ℕ) → exitsOf t c ≡ exits.Count k → (isNamed c ≡ true) × (declared t c ≡ k)
 unfolding declared
 callee-named t (procedure q) k e = (refl, cc)
 callee-named t (external j) k e = (refl, cc)

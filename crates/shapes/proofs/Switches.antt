@@ -13,12 +13,11 @@ use lib.Seq.{getD-set-same, getD-set-other}
 use borrow.Author.Tests.{eq-eqb, ne-eqb, eqb-true, eqb-false, lt-ltb, le-ltb}
 use Rattle.base.specs.Test.{_and_, _or_, if, Ok}
 use Rattle.base.proofs.Bool.{and-l, and-r, ok-eq}
-use Rattle.ops.specs.Class.{BSW, classCode, is, marks, ESW}
-use Rattle.rules.specs.Check.{unlike, distinctIffs, valueKnown, switchList, iffs, mayReach, holds, flowRules}
-use Rattle.rules.specs.Table.{size, classAt, field, value, target3}
-use Rattle.shapes.specs.Counted.{differsAt, freshAt, Marked, Counted}
+use Rattle.ops.specs.Class.{classCode, is, marks, ESW}
+use Rattle.rules.specs.Check.{unlike, distinctIffs, valueKnown, switchList, iffs}
+use Rattle.rules.specs.Table.{size, classAt, field, value}
+use Rattle.shapes.specs.Counted.{differsAt, freshAt, listOk, Marked, Counted}
 use Rattle.shapes.proofs.Codes.{is-code}
-use Rattle.entries.proofs.Belows.{and-true}
 use Rattle.shapes.proofs.Tests.{and-no, and-yes, and-none, or-no, or-yes, not-no, not-yes}
 
 -- one IFF
@@ -152,28 +151,21 @@ module _ (t : List ℕ) (limit p k left : ℕ) where
       let e : p + (k - left - 1) ≡ p + (k - (left + 1)) = omega arith in
       subst (λ (x : ℕ). Marked t ms (p + (k - (left + 1))) x) (sym (add-one left)) (subst (λ (x : ℕ). Marked t ms x (suc left)) e m)
 
--- the rules of the BSW at p, below which k IFFs stand, then a card of class c
+-- the list of the BSW at p, below which k IFFs stand, then a card of class c
 module _ (t : List ℕ) (p k c : ℕ) (i : k ≡ iffs t (p + 1) (size t)) (e : c ≡ classCode (classAt t (p + 1 + k))) where
-  listed : (b : Bool) → is (classAt t (suc (p + k))) (marks ESW) and distinctIffs t (field t p 6) (suc p) k ≡ b → switchList t p (iffs t (suc p) (size t)) ≡ b
-  unfolding switchList
-  listed b h =
-      let s : iffs t (suc p) (size t) ≡ k = sym (i ∙ rw (add-one p) refl) in
-      subst (λ (x : ℕ). is (classAt t (suc (p + x))) (marks ESW) and distinctIffs t (field t p 6) (suc p) x ≡ b) (sym s) h
+  listed : is (classAt t (suc (p + k))) (marks ESW) and distinctIffs t (field t p 6) (suc p) k ≡ listOk t p
+  unfolding listOk switchList
+  listed =
+      let s : k ≡ iffs t (suc p) (size t) = i ∙ rw (add-one p) refl in
+      ap (λ (x : ℕ). is (classAt t (suc (p + x))) (marks ESW) and distinctIffs t (field t p 6) (suc p) x) s
 
   closed : is (classAt t (suc (p + k))) (marks ESW) ≡ eqb c 16
   closed =
       let z : p + 1 + k ≡ suc (p + k) = omega arith in is-code (classAt t (suc (p + k))) (marks ESW) c (e ∙ rw z refl)
 
-  pub switch-open : (c ≡ 16 → ⊥) → false ≡ holds (flowRules t p BSW)
-  switch-open h = sym (and-no _ _ (listed false (and-no _ _ (closed ∙ ne-eqb _ _ h))))
+  pub switch-open : (c ≡ 16 → ⊥) → false ≡ listOk t p
+  switch-open h = sym (and-no _ _ (closed ∙ ne-eqb _ _ h)) ∙ listed
 
-  pub switch-unlisted : c ≡ 16 → distinctIffs t (getD t (8 + 8 * p + 6) 0) (p + 1) k ≡ false → false ≡ holds (flowRules t p BSW)
+  pub switch-closed : c ≡ 16 → distinctIffs t (getD t (8 + 8 * p + 6) 0) (p + 1) k ≡ listOk t p
   unfolding field
-  switch-unlisted h d = sym (and-no _ _ (listed false (and-yes _ _ (closed ∙ eq-eqb _ _ h) ∙ rw (← add-one p) d)))
-
-  pub switch-listed : (x : ℕ) → x ≡ getD t (8 + 8 * p + 7) 0 → c ≡ 16 → distinctIffs t (getD t (8 + 8 * p + 6) 0) (p + 1) k ≡ true
-      → mayReach t p x ≡ holds (flowRules t p BSW)
-  unfolding field target3
-  switch-listed x q h d =
-      let g : switchList t p (iffs t (suc p) (size t)) ≡ true = listed true (and-yes _ _ (closed ∙ eq-eqb _ _ h) ∙ rw (← add-one p) d) in
-      sym (and-yes _ _ g ∙ and-true _ ∙ ap (mayReach t p) (sym q))
+  switch-closed h = rw (add-one p) (sym (and-yes _ _ (closed ∙ eq-eqb _ _ h)) ∙ listed)

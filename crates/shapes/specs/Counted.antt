@@ -7,7 +7,7 @@ use mathlib.Core.List.{List}
 use lib.Dec.{eqb, ltb}
 use lib.ListN.{length, getD}
 use Rattle.base.specs.Test.{_and_, _or_}
-use Rattle.rules.specs.Check.{iffs, unlike, valueKnown}
+use Rattle.rules.specs.Check.{iffs, switchList, unlike, valueKnown}
 use Rattle.rules.specs.Table.{size, value, exitCount, Callee, procedure, external, unnamed}
 use Rattle.shapes.specs.declared.exits.Exits.{Exits}
 use Rattle.shapes.specs.declared.exits.Exits.the-variants as exits
@@ -22,6 +22,10 @@ exitsOf t unnamed = exits.Unnamed
 pub record Counted (t : List ℕ) (p n r : ℕ) : Type 0 where
   pub all : r ≡ iffs t p (size t)
   pub inside : p + r ≤ n
+
+-- the list of the BSW at p is lawful
+unfoldable pub listOk : List ℕ → ℕ → Bool
+listOk t p = switchList t p (iffs t (suc p) (size t))
 
 -- the IFF at q has another value than v, or none that is known
 unfoldable pub differsAt : List ℕ → ℕ → ℕ → Bool

@@ -31,7 +31,7 @@ fn below_exit(table: &[u32], classes: &[u32], body: &[u32], n: usize, p: usize) 
 }
 
 // The card above is an IFF or a BSW.
-fn below_iff(table: &[u32], classes: &[u32], body: &[u32], n: usize, p: usize) -> bool
+pub fn below_iff(table: &[u32], classes: &[u32], body: &[u32], n: usize, p: usize) -> bool
     requires { ⌜ Known (now table) (now classes) (now body) n × (p < n) ⌝ }
     ensures { λ r. ⌜ r ≡ Check.belowIff (now (table .entry)) p ⌝ }
 {

@@ -28,7 +28,14 @@ pub fn is_exit(table: &[u32], classes: &[u32], body: &[u32], n: usize, q: usize)
 }
 
 // Exactly k exit cards stand from place p on.
-fn exit_list(table: &[u32], classes: &[u32], body: &[u32], n: usize, p: usize, count: u32) -> bool
+pub fn exit_list(
+    table: &[u32],
+    classes: &[u32],
+    body: &[u32],
+    n: usize,
+    p: usize,
+    count: u32,
+) -> bool
     requires { ⌜ Known (now table) (now classes) (now body) n × (p ≤ n) ⌝ }
     ensures { λ r. ⌜ r ≡ Check.exitList (now (table .entry)) p count ⌝ }
 {

@@ -10,9 +10,9 @@ ghost use lib.ListN.{length, getD};
 ghost use Rattle.base.specs.Test.{_and_, _or_};
 ghost use Rattle.ops.specs.Class.{BSW};
 ghost use Rattle.rules.specs.Check as Check;
-ghost use Rattle.rules.specs.Table.{value};
+ghost use Rattle.rules.specs.Table.{value, target3};
 ghost use Rattle.shapes.specs.Known.{Known};
-ghost use Rattle.shapes.specs.Counted.{Counted, Marked, differsAt, freshAt};
+ghost use Rattle.shapes.specs.Counted.{Counted, Marked, differsAt, freshAt, listOk};
 use crate::reach::class_at;
 use crate::reach::may_reach;
 use entries::layout::ENTRY;
@@ -114,24 +114,34 @@ fn are_distinct(table: &[u32], limit: u32, p: usize, k: usize) -> bool
     true
 }
 
-// BSW: its list is lawful and closed by ESW, and its default stays in the body.
-pub fn bsw_ok(table: &[u32], classes: &[u32], body: &[u32], n: usize, p: usize) -> bool
+// The list of the BSW at p is lawful, and ESW closes it.
+pub fn list_ok(table: &[u32], classes: &[u32], body: &[u32], n: usize, p: usize) -> bool
     requires { ⌜ Known (now table) (now classes) (now body) n × (p < n) ⌝ }
-    ensures { λ r. ⌜ r ≡ Check.holds (Check.flowRules (now (table .entry)) p BSW) ⌝ }
+    ensures { λ r. ⌜ r ≡ listOk (now (table .entry)) p ⌝ }
 {
     let k = count_iffs(table, classes, body, n, p + 1);
     if class_at(table, classes, body, n, p + 1 + k) != class::ESW {
         return false;
     }
-    if !are_distinct(table, table[HEADER + ENTRY * p + 6], p + 1, k) {
+    are_distinct(table, table[HEADER + ENTRY * p + 6], p + 1, k)
+}
+
+// The default of the BSW at p stays in its body.
+pub fn default_ok(table: &[u32], classes: &[u32], body: &[u32], n: usize, p: usize) -> bool
+    requires { ⌜ Known (now table) (now classes) (now body) n × (p < n) ⌝ }
+    ensures { λ r. ⌜ r ≡ Check.mayReach (now (table .entry)) p (target3 (now (table .entry)) p) ⌝ }
+{
+    let three = index(table[HEADER + ENTRY * p + 7]);
+    may_reach(table, classes, body, n, p, three)
+}
+
+// BSW: its list is lawful and closed by ESW, and its default stays in the body.
+pub fn bsw_ok(table: &[u32], classes: &[u32], body: &[u32], n: usize, p: usize) -> bool
+    requires { ⌜ Known (now table) (now classes) (now body) n × (p < n) ⌝ }
+    ensures { λ r. ⌜ r ≡ Check.holds (Check.flowRules (now (table .entry)) p BSW) ⌝ }
+{
+    if !list_ok(table, classes, body, n, p) {
         return false;
     }
-    may_reach(
-        table,
-        classes,
-        body,
-        n,
-        p,
-        index(table[HEADER + ENTRY * p + 7]),
-    )
+    default_ok(table, classes, body, n, p)
 }

@@ -18,7 +18,7 @@ use shapes::reach;
 use shapes::switch;
 
 // The rules of the place p by its class.
-fn class_ok(table: &[u32], classes: &[u32], body: &[u32], n: usize, p: usize) -> bool
+pub fn class_ok(table: &[u32], classes: &[u32], body: &[u32], n: usize, p: usize) -> bool
     requires { ⌜ Known (now table) (now classes) (now body) n × (p < n) ⌝ }
     ensures { λ r. ⌜ r ≡ Check.holds (Check.classRules (now (table .entry)) p (classAt (now (table .entry)) p)) ⌝ }
 {
@@ -62,7 +62,7 @@ fn starts_section(table: &[u32], p: usize) -> bool
 }
 
 // A section that starts at p starts outside procedures, at a place that can be arrived at.
-fn start_ok(table: &[u32], classes: &[u32], body: &[u32], n: usize, p: usize) -> bool
+pub fn start_ok(table: &[u32], classes: &[u32], body: &[u32], n: usize, p: usize) -> bool
     requires { ⌜ Known (now table) (now classes) (now body) n × (p < n) ⌝ }
     ensures { λ r. ⌜ r ≡ (not (Check.startsSection (now (table .entry)) p) or Check.isOutside (now (table .entry)) p) ⌝ }
 {
