@@ -62,7 +62,7 @@ fn table_length(table: &[u32]) -> usize
 }
 
 // Sections 4, 5 and 6 start at rising places from 0 [S Shape rules].
-fn sections_ok(table: &[u32]) -> bool
+pub fn sections_ok(table: &[u32]) -> bool
     requires { ⌜ 8 ≤ length (now table) ⌝ }
     ensures { λ r. ⌜ r ≡ sectionsOk (now (table .entry)) ⌝ }
 {

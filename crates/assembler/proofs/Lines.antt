@@ -1,0 +1,104 @@
+-- The first fault of a text, line by line: what the pass over the lines keeps, and each way through a line.
+-- Assumes nothing.
+use Prim.Native.Nat.{ℕ, _+_, _-_, _<_, _≤_}
+use mathlib.Core.Path.{_≡_, refl, sym, ap, subst, _∙_}
+use mathlib.Core.Bool.{Bool, true, false}
+use mathlib.Core.List.{List, [], _∷_}
+use native.Mathlib.Omega.{arith}
+use borrow.Author.Tests.{eq-eqb, ne-eqb}
+use lib.Dec.{eqb}
+use lib.ListN.{drop, drop-of-length-le, length, length-drop, take}
+use lib.Seq.{length-take-le}
+use Rattle.base.specs.Test.{if}
+use Rattle.shapes.proofs.Tests.{if-no, if-yes}
+use Rattle.language.specs.Text.{lines, span}
+use Rattle.language.specs.Operation.{END, isAssembly}
+use Rattle.language.specs.Card.{Card, Reader, cardOf, cardsOf, holdsPlace, one, past, start, walk}
+use Rattle.language.specs.Image.{count}
+use Rattle.language.specs.Fault.{Deck, faultOf}
+use Rattle.language.specs.Answer.{Answer, faulty, firstFault, refused}
+use Rattle.language.proofs.Places.{behind}
+use Rattle.language.proofs.Laws.{inLine, walk-at}
+use Rattle.asm_cards.specs.Reading.{Counted}
+use Rattle.asm_cards.proofs.Counting.{counted-past, counted-start}
+use Rattle.assembler.specs.Judges.{PlaceBelow}
+
+-- the reader r stands at byte i: what it has counted, the places below and those to come, and no fault above
+pub record Judging (text : List ℕ) (d : Deck) (size : ℕ) (r : Reader) (i : ℕ) : Type 0 where
+  pub inside : i ≤ length text + 1
+  pub counted : Counted i r
+  pub places : r .place + count holdsPlace (walk r (lines (drop i text))) ≡ size
+  pub rest : (a : Answer) → firstFault d (walk r (lines (drop i text))) a ≡ firstFault d (cardsOf text) a
+
+pub judging-start : (text : List ℕ) (d : Deck) (size : ℕ) → count holdsPlace (cardsOf text) ≡ size → Judging text d size start 0
+unfolding cardsOf
+judging-start text d size e = record { inside = omega arith; counted = counted-start; places = omega arith; rest = λ a. refl }
+
+-- a line with the card k
+module _ (text : List ℕ) (d : Deck) (size : ℕ) (r : Reader) (i e : ℕ) (v : Judging text d size r i) (h : i < length text)
+    (q : e ≡ i + span inLine (drop i text)) (k : Card) (k-is : k ≡ cardOf r (take (e - i) (drop i text))) where
+  abbrev below : List Card
+  below = behind k (lines (drop (e + 1) text))
+
+  split : walk r (lines (drop i text)) ≡ k ∷ below
+  split = rw k-is (walk-at r text i e h q)
+
+  spot-is : k .spot ≡ r
+  unfolding cardOf
+  spot-is = ap (λ (c : Card). c .spot) k-is
+
+  line-is : k .line ≡ take (e - i) (drop i text)
+  unfolding cardOf
+  line-is = ap (λ (c : Card). c .line) k-is
+
+  card-places : r .place + (one (holdsPlace k) + count holdsPlace below) ≡ size
+  card-places = rw split at (v .places)
+
+  pub place-below : PlaceBelow size k
+  unfolding if
+  place-below t =
+      let p : k .spot .place ≡ r .place = ap (λ (x : Reader). x .place) spot-is in
+      let o : one (holdsPlace k) ≡ 1 = rw t in
+      omega (arith, card-places)
+
+  pub counted-here : Counted i (k .spot)
+  counted-here = rw spot-is (v .counted)
+
+  first-of : (a : Answer) → firstFault d (k ∷ below) a ≡ firstFault d (cardsOf text) a
+  first-of a = sym (ap (λ (cs : List Card). firstFault d cs a) split) ∙ v .rest a
+
+  module _ (f : ℕ) (f-is : f ≡ faultOf d k) where
+    pub broken : (f ≡ 0 → ⊥) → (a : Answer) → refused (faulty f (k .spot .line)) ≡ firstFault d (cardsOf text) a
+    unfolding firstFault
+    broken n a =
+        let z : eqb (faultOf d k) 0 ≡ false = rw (← f-is) (ne-eqb f 0 n) in
+        rw f-is (sym (if-no _ _ _ z) ∙ first-of a)
+
+    goes-on : f ≡ 0 → (a : Answer) → firstFault d below a ≡ firstFault d (cardsOf text) a
+    unfolding firstFault
+    goes-on n a =
+        let z : eqb (faultOf d k) 0 ≡ true = rw (← f-is) (eq-eqb f 0 n) in
+        sym (if-yes _ _ _ z) ∙ first-of a
+
+    pub closes : f ≡ 0 → isAssembly END (k .operation) ≡ true → (a : Answer) → a ≡ firstFault d (cardsOf text) a
+    unfolding firstFault if
+    closes n t a = rw t at (goes-on n a)
+
+    pub step : f ≡ 0 → isAssembly END (k .operation) ≡ false → e ≤ length text → Judging text d size (past k) (e + 1)
+    unfolding past if
+    step n t l =
+        let m : length (k .line) ≡ e - i = rw line-is (length-take-le (e - i) (drop i text) (omega (arith, length-drop i text))) in
+        let w : i + length (k .line) + 1 ≡ e + 1 = omega arith in
+        let b : below ≡ walk (past k) (lines (drop (e + 1) text)) = rw t refl in
+        record {
+          inside = omega arith;
+          counted = subst (λ (j : ℕ). Counted j (past k)) w (counted-past i k counted-here);
+          places = let p : k .spot .place ≡ r .place = ap (λ (x : Reader). x .place) spot-is in omega (arith, rw b at card-places);
+          rest = λ a. rw b at (goes-on n a);
+        }
+
+-- no line is left
+pub all-clear : (text : List ℕ) (d : Deck) (size : ℕ) (r : Reader) (i : ℕ) → Judging text d size r i → length text ≤ i
+    → (a : Answer) → a ≡ firstFault d (cardsOf text) a
+unfolding firstFault walk lines
+all-clear text d size r i v h a = let e : drop i text ≡ [] = drop-of-length-le text {i = i} h in rw e at (v .rest a)
