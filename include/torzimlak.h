@@ -49,6 +49,12 @@ enum {
     TORZIMLAK_TABLE_WORDS = 16872
 };
 
+/*
+ * Cards become a table. Number 0: the value is the table's length, and room past it stays as it was. Numbers 1 to 10: refused; the value
+ * is the line, 0 where there is none.
+ */
+uint64_t torzimlak_assemble(const uint8_t *cards, size_t bytes, uint32_t *table, size_t table_words);
+
 /* 0: the table passes its check. 30: it does not. */
 uint32_t torzimlak_check_table(const uint32_t *table, size_t table_words);
 

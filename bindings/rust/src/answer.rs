@@ -81,6 +81,10 @@ impl Refusal {
         Refusal { number, line: 0 }
     }
 
+    pub(crate) fn at(number: u32, line: u32) -> Refusal {
+        Refusal { number, line }
+    }
+
     /// The number that the papers give it.
     pub fn number(self) -> u32 {
         self.number

@@ -1,5 +1,5 @@
-//! Safe types over the proved machine for MINIMAL: a [`Table`] starts a [`Machine`], a machine freezes to a [`Snapshot`] and wakes from it
-//! with fresh words of the host's.
+//! Safe types over the proved machine for MINIMAL: cards become a [`Table`], a table starts a [`Machine`], a machine freezes to a
+//! [`Snapshot`] and wakes from it with fresh words of the host's.
 //!
 //! Every function of the library underneath is proved for any input, so nothing here checks an input a second time.
 

@@ -5,6 +5,7 @@ pub const STATE_WORDS: usize = 267;
 
 mod c {
     extern "C" {
+        pub fn torzimlak_assemble(cards: *const u8, bytes: usize, table: *mut u32, words: usize) -> u64;
         pub fn torzimlak_check_table(table: *const u32, words: usize) -> u32;
         pub fn torzimlak_check_state(
             table: *const u32,
@@ -72,6 +73,10 @@ mod c {
 /// The number and the value of an answer.
 fn parts(answer: u64) -> (u32, u32) {
     ((answer >> 32) as u32, answer as u32)
+}
+
+pub fn assemble(cards: &[u8], table: &mut [u32]) -> (u32, u32) {
+    parts(unsafe { c::torzimlak_assemble(cards.as_ptr(), cards.len(), table.as_mut_ptr(), table.len()) })
 }
 
 pub fn check_table(table: &[u32]) -> u32 {

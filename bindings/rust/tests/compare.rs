@@ -3,7 +3,7 @@
 
 mod common;
 
-use common::{deck, text, Random};
+use common::{deck, spoil, text, Random};
 use std::collections::BTreeSet;
 use torzimlak::sys;
 use torzimlak_plain::{assemble, check, machine, snapshot, Table};
@@ -50,6 +50,61 @@ fn lawful(r: &mut Random) -> Vec<u32> {
 fn expect_all(what: &str, seen: &BTreeSet<u32>, due: impl IntoIterator<Item = u32>) {
     for n in due {
         assert!(seen.contains(&n), "{what}: {n} was never met");
+    }
+}
+
+/// Both assemblers on one text: the same answer, and the room past the table untouched.
+fn assembles_alike(bytes: &[u8], room: usize) -> u32 {
+    let mut lent = vec![0xA5A5_A5A5; room];
+    let got = sys::assemble(bytes, &mut lent);
+    match assemble::assemble(bytes, room) {
+        Ok(t) => {
+            assert_eq!(got, (0, t.len() as u32), "{}", String::from_utf8_lossy(bytes));
+            assert_eq!(&lent[..t.len()], &t[..]);
+            assert!(lent[t.len()..].iter().all(|w| *w == 0xA5A5_A5A5));
+            0
+        }
+        Err((n, l)) => {
+            assert_eq!(got, (n, l as u32), "{}", String::from_utf8_lossy(bytes));
+            assert!(lent.iter().all(|w| *w == 0xA5A5_A5A5), "a refusal changed the room");
+            n
+        }
+    }
+}
+
+#[test]
+fn decks() {
+    let mut r = Random::new(1);
+    let mut seen = BTreeSet::new();
+    for i in 0..60_000 {
+        let mut d = deck(&mut r);
+        for _ in 0..i % 4 {
+            spoil(&mut r, &mut d);
+        }
+        let room = if r.once_in(50) { r.below(400) } else { ROOM };
+        let mut bytes = text(&d);
+        if r.once_in(20) {
+            bytes.pop();
+        }
+        seen.insert(assembles_alike(&bytes, room));
+    }
+    for n in [1020, 1030] {
+        let mut d: Vec<String> = [" SEC"; 5].map(String::from).to_vec();
+        d.extend(vec![" NGI".to_string(); n]);
+        d.extend(["START BRN START", " SEC", " ERB 1,A", " SEC", " ERB 1,A", " END"].map(String::from));
+        seen.insert(assembles_alike(&text(&d), ROOM));
+    }
+    seen.insert(assembles_alike(&vec![b'*'; 32_769], ROOM));
+    expect_all("decks", &seen, 0..=10);
+}
+
+#[test]
+fn bytes_of_any_kind() {
+    let mut r = Random::new(2);
+    for i in 0..10_000 {
+        let n = r.below(300);
+        let bytes: Vec<u8> = (0..n).map(|_| if i % 2 == 0 { r.next() as u8 } else { *r.pick(b" \nSECENDABC12$,=*()+-.") }).collect();
+        assembles_alike(&bytes, 100);
     }
 }
 

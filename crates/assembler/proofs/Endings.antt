@@ -19,7 +19,7 @@ use Rattle.language.specs.Answer.{Answer, Refusal, answerOf, assembled, faulty,
 use Rattle.assembler.specs.Answers.{Answers, answerView}
 use Rattle.asm_types.specs.Views.{symbolsIn}
 use Rattle.asm_collect.specs.declared.Collected.{Collected}
-use Rattle.assembler.specs.Judges.{FirstFault, Prepared, deckFrom}
+use Rattle.assembler.specs.Judges.{FirstFault, Prepared, deckFrom, faultIn}
 use Rattle.assembler.proofs.Tables.{complete-is, deck-is, within-is}
 use Rattle.assembler.specs.declared.Fault.{Fault}
 use Rattle.assembler.specs.declared.Assembled.{Assembled}
@@ -80,8 +80,10 @@ module _ (text syms t old : List ℕ) (c : Collected) (p : Prepared text syms t 
   table-is : deckOf text .table ≡ t
   table-is = sym (ap (λ (d : Deck). d .table) (deck-is text syms t c p))
 
-  pub broken-ends : (f : Fault) → v ≡ Broken f → Answers (deckOf text) (Faulty f) old old
-  broken-ends f e = faulty-answers (deckOf text) old f (first-is (Broken f) e)
+  pub broken-ends : (f g : Fault) → v ≡ Broken f → g ≡ faultIn v → Answers (deckOf text) (Faulty g) old old
+  broken-ends f g e q =
+      subst (λ (x : Fault). Answers (deckOf text) (Faulty x) old old) (sym (q ∙ ap faultIn e))
+      (faulty-answers (deckOf text) old f (first-is (Broken f) e))
 
   module _ (clear : v ≡ Clear) (complete : Bool)
       (complete-by : complete ≡ (c .closed and sectionsOk t and allPlaced (symbolsIn syms (c .labels)) (symbolsIn syms (c .labels)))) where

@@ -15,6 +15,7 @@ use Rattle.language.specs.Answer.{Answer, faulty, firstFault, refused}
 use Rattle.asm_symbols.specs.Symbolic.{Symbolic}
 use Rattle.asm_collect.specs.Gathered.{CollectedOf}
 use Rattle.asm_collect.specs.declared.Collected.{Collected}
+use Rattle.assembler.specs.declared.Fault.{Fault}
 use Rattle.assembler.specs.declared.judge.Verdict.{Verdict}
 use Rattle.assembler.specs.declared.judge.Verdict.the-variants.{Clear, Broken}
 
@@ -33,6 +34,10 @@ PlaceBelow size c = Cards.holdsPlace c ≡ true → c .spot .place < size
 abbrev pub verdictView : Verdict → Answer → Answer
 verdictView Clear a = a
 verdictView (Broken f) a = refused (faulty (f .number) (f .line))
+
+abbrev pub faultIn : Verdict → Fault
+faultIn Clear = record { number = 0; line = 0 }
+faultIn (Broken f) = f
 
 -- v is the first fault of some cards
 abbrev pub FirstFault : Deck → List Cards.Card → Verdict → Type 0

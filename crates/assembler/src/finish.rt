@@ -15,6 +15,7 @@ ghost use Rattle.assembler.specs.Answers.{Answers};
 ghost use Rattle.assembler.specs.Judges.{Prepared};
 use crate::Assembled;
 use crate::judge::Verdict;
+use crate::judge::fault_in;
 use crate::judge::judge;
 use asm_collect::Collected;
 use asm_shapes::classes::classes_of;
@@ -90,9 +91,9 @@ pub fn finish(
     classes_of(draft, list, size, classes);
     bodies(draft, size, body);
     let v = judge(list, text, syms, n, draft, classes, body, size);
-    if let Verdict::Broken(f) = v {
-        return Assembled::Faulty(f);
-    }
+    let Verdict::Clear = v else {
+        return Assembled::Faulty(fault_in(v));
+    };
     if !is_complete(draft, syms, n, c.closed) {
         return Assembled::Incomplete;
     }

@@ -7,7 +7,7 @@ ghost use Rattle.language.specs.Card.{cardsOf};
 ghost use Rattle.language.specs.Fault.{faultOf};
 ghost use Rattle.asm_types.specs.Views.{cardView, symbolsIn};
 ghost use Rattle.asm_symbols.specs.Symbolic.{Symbolic};
-ghost use Rattle.assembler.specs.Judges.{FirstFault, Judged, OfDeck, PlaceBelow, deckFrom};
+ghost use Rattle.assembler.specs.Judges.{FirstFault, Judged, OfDeck, PlaceBelow, deckFrom, faultIn};
 use crate::Fault;
 use crate::shape::shape_fault;
 use asm_cards::card_of;
@@ -24,6 +24,16 @@ use ops::table::Operations;
 pub enum Verdict {
     Clear,
     Broken(Fault),
+}
+
+// The fault that a verdict names: number 0 where there is none.
+pub fn fault_in(v: Verdict) -> Fault
+    ensures { λ r. ⌜ r ≡ faultIn v ⌝ }
+{
+    match v {
+        Verdict::Clear => Fault { number: 0, line: 0 },
+        Verdict::Broken(f) => f,
+    }
 }
 
 // The smallest number of a line's faults, or 0.

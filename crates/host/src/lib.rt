@@ -25,6 +25,7 @@ use starting::start;
 use states::check::state_ok;
 use tables::check_table;
 
+pub mod cards;
 pub mod lent;
 
 // The answers: passed, 30, 31, and those of the snapshot, 40 to 45.

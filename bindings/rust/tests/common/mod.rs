@@ -1,4 +1,4 @@
-//! Random decks, lawful for the most part.
+//! Random decks, lawful for the most part, and ways to spoil them.
 
 use torzimlak_plain::ops::{Class, Format, Row, Slot, ROWS};
 
@@ -250,4 +250,44 @@ pub fn deck(r: &mut Random) -> Vec<String> {
 /// The deck as bytes.
 pub fn text(deck: &[String]) -> Vec<u8> {
     deck.iter().flat_map(|l| l.bytes().chain([b'\n'])).collect()
+}
+
+/// A line put away, doubled, moved or changed in one byte.
+pub fn spoil(r: &mut Random, deck: &mut Vec<String>) {
+    if deck.is_empty() {
+        return;
+    }
+    let i = r.below(deck.len());
+    match r.below(8) {
+        0 => drop(deck.remove(i)),
+        1 => deck.insert(i, deck[i].clone()),
+        2 => {
+            let j = r.below(deck.len());
+            deck.swap(i, j);
+        }
+        3 => {
+            let row = r.pick(&ROWS);
+            let tail = deck[i].split_whitespace().last().unwrap_or("").to_string();
+            deck.insert(i, format!(" {} {tail}", row.mnemonic));
+        }
+        4 => {
+            let words: Vec<String> = deck.iter().flat_map(|l| l.split([' ', ',']).map(String::from)).filter(|w| !w.is_empty()).collect();
+            if words.is_empty() {
+                return;
+            }
+            let (old, new) = (r.pick(&words).clone(), r.pick(&words).clone());
+            deck[i] = deck[i].replacen(&old, &new, 1);
+        }
+        _ => {
+            let mut bytes = deck[i].clone().into_bytes();
+            let at = r.below(bytes.len() + 1);
+            let new = *r.pick(b" ,.*()+-=$ABCDEFGLMNRSTWXZ0123459\t~");
+            match r.below(3) {
+                0 if at < bytes.len() => bytes[at] = new,
+                1 if at < bytes.len() => drop(bytes.remove(at)),
+                _ => bytes.insert(at, new),
+            }
+            deck[i] = String::from_utf8(bytes).unwrap();
+        }
+    }
 }
