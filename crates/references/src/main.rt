@@ -1,5 +1,6 @@
-// The reference runs through the compiled code, a line for each case: its name, the ending, steps, place, WA, WB and IA [S Reference runs].
-// An operation stands at place 0; it goes on at place 1, and branches to place 2.
+// The eight reference runs through the compiled code, a line for each case [S Reference runs]. Of an operation: its name, the ending, steps,
+// place, WA, WB and IA; of the text: its name, the assembler's number, the words. An operation stands at place 0; it goes on at place 1, and branches to place 2.
+use host::cards::torzimlak_assemble;
 use host::torzimlak_run;
 use host::torzimlak_start;
 use io::print_decimal;
@@ -19,7 +20,10 @@ const PLACE: usize = 8;
 // Words of memory.
 const MEMORY: usize = 256;
 
-// The two halves of a run's answer.
+// Words for a small table.
+const ROOM: usize = 64;
+
+// The two halves of an answer.
 const UPPER: u64 = 4294967296;
 
 // A table of the operation, three branches back to it, and two working words, the first of them as given.
@@ -113,6 +117,29 @@ fn one_step(name: &[u8], op: [u32; 8], first: u32, wa: u32, wb: u32, ia: u32) {
     write_all(1, b"\n");
 }
 
+// The number of the assembler's answer, and the last two words of the table.
+fn tell_last(name: &[u8], r: u64, room: &[u32]) {
+    let len = (r % UPPER) as usize;
+    write_all(1, name);
+    tell(r / UPPER);
+    if len < 2 {
+        return;
+    }
+    if room.len() < len {
+        return;
+    }
+    tell_word(room[len - 2]);
+    tell_word(room[len - 1]);
+    write_all(1, b"\n");
+}
+
+// The words of a text, told.
+fn text_words(name: &[u8], cards: &[u8]) {
+    let mut room = [0u32; ROOM];
+    let r = torzimlak_assemble(cards, &mut room);
+    tell_last(name, r, &room);
+}
+
 // A number below 0 by its size.
 fn minus(n: u32) -> u32 {
     words::sub(0, n)
@@ -154,4 +181,8 @@ fn main() {
     let mfi: [u32; 8] = [804, 8, 4, 0, 6, 0, 2, 0];
     one_step(b"7 MFI of -1:", mfi, 0, 5, 0, minus(1));
     one_step(b"7 MFI of 2147483647:", mfi, 0, 5, 0, 2147483647);
+    text_words(
+        b"8 DTC /ABCDE/:",
+        b" SEC\n SEC\n SEC\n DTC /ABCDE/\n SEC\n SEC\nSTART BRN START\n SEC\n ERB 1,A\n SEC\n ERB 1,A\n END\n",
+    );
 }
