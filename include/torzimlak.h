@@ -52,6 +52,7 @@ enum {
 /*
  * Cards become a table. Number 0: the value is the table's length, and room past it stays as it was. Numbers 1 to 10: refused; the value
  * is the line, 0 where there is none.
+ * It works on the stack alone, of which it needs about 1.1 MB: a thread that calls it should have 2 MB.
  */
 uint64_t torzimlak_assemble(const uint8_t *cards, size_t bytes, uint32_t *table, size_t table_words);
 
