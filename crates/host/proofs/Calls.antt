@@ -14,7 +14,7 @@ use Rattle.rules.specs.Number.{outcomeNumber, refusalNumber, badTable, badState
 use Rattle.rules.specs.Check.{tableOk}
 use Rattle.rules.specs.State as Rules
 use Rattle.rules.specs.Run as Run
-use Rattle.rules.specs.Run.{Call, answer, ended, left, refused, resumes, runs, unlessRefused, verdict}
+use Rattle.rules.specs.Run.{Call, answer, left, refused, resumes, runs, verdict}
 use Rattle.rules.specs.Start as Start
 use Rattle.rules.specs.Start.{begun, startOf, unbegun}
 use Rattle.states.specs.declared.State.{State}
@@ -29,16 +29,8 @@ use Rattle.machine.specs.declared.answers.Answer as Ran
 use Rattle.machine.specs.declared.answers.Answer.the-variants as ran
 use Rattle.host.specs.Lent.{codeFrom, lawful, stateFrom, wordsFrom}
 use Rattle.host.specs.Freezing.{upper}
-use Rattle.host.specs.Running.{HostResumes, HostRuns, HostStarts, callNumber, callSteps, callWords, startNumber, startWords, unreadNumber, wordsBegun, wordsLeft}
-
--- a choice by its test
-first : {A : Type 0} (b : Bool) (x y : A) → b ≡ true → if b x y ≡ x
-unfolding if
-first b x y e = rw e
-
-second : {A : Type 0} (b : Bool) (x y : A) → b ≡ false → if b x y ≡ y
-unfolding if
-second b x y e = rw e
+use Rattle.host.specs.Running.{HostResumes, HostRuns, HostStarts, callNumber, callWords, startNumber, startWords, unreadNumber, wordsBegun, wordsLeft}
+use Rattle.host.proofs.Freezes.{passed, taken}
 
 -- a table that fails is told by 30 whatever is asked
 answer-table : (t : List ℕ) (s : Rules.State) (c : Call) → tableOk t ≡ false → answer t s c ≡ refused badTable
@@ -56,17 +48,17 @@ words-answer t ws mem c a = by-table (tableOk t) refl
 
 -- words that are none: 30, or 31
 words-unread : (t ws mem : List ℕ) (c : Call) → lawful ws ≡ false
-    → (unreadNumber t ≡ callNumber (callWords t ws mem c)) × (callSteps (callWords t ws mem c) ≡ 0) × (left (stateFrom ws mem) (callWords t ws mem c) .core .mem ≡ mem) × (wordsLeft (callWords t ws mem c) ws ≡ ws)
+    → (unreadNumber t ≡ callNumber (callWords t ws mem c)) × (Machine.stepsIn (callWords t ws mem c) ≡ 0) × (left (stateFrom ws mem) (callWords t ws mem c) .core .mem ≡ mem) × (wordsLeft (callWords t ws mem c) ws ≡ ws)
 unfolding unreadNumber callWords
 words-unread t ws mem c a = by-table (tableOk t) refl
   where
-    by-table : (b : Bool) → tableOk t ≡ b → (unreadNumber t ≡ callNumber (callWords t ws mem c)) × (callSteps (callWords t ws mem c) ≡ 0) × (left (stateFrom ws mem) (callWords t ws mem c) .core .mem ≡ mem) × (wordsLeft (callWords t ws mem c) ws ≡ ws)
+    by-table : (b : Bool) → tableOk t ≡ b → (unreadNumber t ≡ callNumber (callWords t ws mem c)) × (Machine.stepsIn (callWords t ws mem c) ≡ 0) × (left (stateFrom ws mem) (callWords t ws mem c) .core .mem ≡ mem) × (wordsLeft (callWords t ws mem c) ws ≡ ws)
     by-table true e =
         let u : callWords t ws mem c ≡ refused badState = skip _ _ _ e ∙ stop _ _ _ a in
-        (first _ _ _ e ∙ rw u, rw u, rw u, rw u)
+        (taken _ _ _ e ∙ rw u, rw u, rw u, rw u)
     by-table false e =
         let u : callWords t ws mem c ≡ refused badTable = stop _ _ _ e in
-        (second _ _ _ e ∙ rw u, rw u, rw u, rw u)
+        (passed _ _ _ e ∙ rw u, rw u, rw u, rw u)
 
 -- an answer below 30 is an ending
 isEnding : Machine.Report → Bool
@@ -197,11 +189,11 @@ module _ (t lent fs : List ℕ) (x : ℕ) (ws : List ℕ) where
     where
       by-table : (b : Bool) → tableOk t ≡ b → HostStarts t lent fs x ws (unreadNumber t) lent ws
       by-table true e =
-          let u : startWords t lent fs x ws ≡ unbegun badState = skip _ _ _ e ∙ first _ _ _ (lt-ltb _ _ a) in
-          record { number = first _ _ _ e ∙ rw u; memory = rw u; state = rw u }
+          let u : startWords t lent fs x ws ≡ unbegun badState = skip _ _ _ e ∙ taken _ _ _ (lt-ltb _ _ a) in
+          record { number = taken _ _ _ e ∙ rw u; memory = rw u; state = rw u }
       by-table false e =
           let u : startWords t lent fs x ws ≡ unbegun badTable = stop _ _ _ e in
-          record { number = second _ _ _ e ∙ rw u; memory = rw u; state = rw u }
+          record { number = passed _ _ _ e ∙ rw u; memory = rw u; state = rw u }
 
   -- room enough: what the rules start
   start-words : 267 ≤ length ws → startWords t lent fs x ws ≡ startOf t lent fs x
@@ -209,7 +201,7 @@ module _ (t lent fs : List ℕ) (x : ℕ) (ws : List ℕ) where
   start-words a = by-table (tableOk t) refl
     where
       by-table : (b : Bool) → tableOk t ≡ b → startWords t lent fs x ws ≡ startOf t lent fs x
-      by-table true e = skip _ _ _ e ∙ second _ _ _ (le-ltb _ _ a)
+      by-table true e = skip _ _ _ e ∙ passed _ _ _ (le-ltb _ _ a)
       by-table false e = stop _ _ _ e ∙ sym (start-table t lent fs x e)
 
   module _ (a : Answer) (c : State) (after : List ℕ) (room : 267 ≤ length ws)

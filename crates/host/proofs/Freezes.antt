@@ -33,11 +33,11 @@ use Rattle.host.specs.Lent.{lawful, codeFrom, stateFrom, wordsFrom}
 use Rattle.host.specs.Freezing.{HostRestores, HostWrites, fileNumber, numberOf, numberWritten, restoreWords, upper, wokenNumber, wordsAfter, writeWords}
 
 -- a choice by its test
-taken : {A : Type 0} (b : Bool) (x y : A) → b ≡ true → if b x y ≡ x
+pub taken : {A : Type 0} (b : Bool) (x y : A) → b ≡ true → if b x y ≡ x
 unfolding if
 taken b x y e = rw e
 
-passed : {A : Type 0} (b : Bool) (x y : A) → b ≡ false → if b x y ≡ y
+pub passed : {A : Type 0} (b : Bool) (x y : A) → b ≡ false → if b x y ≡ y
 unfolding if
 passed b x y e = rw e
 

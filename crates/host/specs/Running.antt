@@ -18,6 +18,7 @@ use Rattle.rules.specs.Start as Start
 use Rattle.rules.specs.Start.{begun, startOf, unbegun}
 use Rattle.states.specs.Views.{codeOf}
 use Rattle.starting.specs.Answers.{memoryAfter}
+use Rattle.machine.specs.Answers.{stepsIn}
 use Rattle.host.specs.Lent.{lawful, stateFrom, wordsFrom}
 use Rattle.host.specs.Freezing.{upper}
 
@@ -36,12 +37,6 @@ callNumber (refused e) = refusalNumber e
 callNumber (ended o k s) = outcomeNumber o
 callNumber nowhere = 0
 
--- its steps, none of a refusal
-abbrev pub callSteps : Run.Answer → ℕ
-callSteps (refused e) = 0
-callSteps (ended o k s) = k
-callSteps nowhere = 0
-
 -- the lent state afterwards: the words of the state that is left in front, or as it was
 abbrev pub wordsLeft : Run.Answer → List ℕ → List ℕ
 wordsLeft (refused e) ws = ws
@@ -50,7 +45,7 @@ wordsLeft nowhere ws = ws
 
 -- run's promise to a host: number and steps, the lent memory, the lent state's words
 pub record HostRuns (t ws mem : List ℕ) (c : Call) (r : ℕ) (after words : List ℕ) : Type 0 where
-  pub number : r ≡ upper (callNumber (callWords t ws mem c)) + callSteps (callWords t ws mem c)
+  pub number : r ≡ upper (callNumber (callWords t ws mem c)) + stepsIn (callWords t ws mem c)
   pub memory : after ≡ left (stateFrom ws mem) (callWords t ws mem c) .core .mem
   pub state : words ≡ wordsLeft (callWords t ws mem c) ws
 
