@@ -9,14 +9,24 @@ ghost use Rattle.assembler.specs.Answers.{Answers, answerView, lineOf, n
 use crate::finish::finish;
 use asm_collect::collect;
 use asm_draft::deck::fill;
+use entries::layout::ENTRY;
+use entries::layout::HEADER;
+use ops::machine::Machine;
 
 pub mod finish;
 pub mod judge;
 pub mod shape;
 
-// The bytes that a text may have; words for its symbols, for its table, and for a number of each place and of the one past the last.
-const MAX_BYTES: usize = 32768;
+// The bytes that a text may have, and the words of the longest table.
+pub const MAX_BYTES: usize = 32768;
 
+pub const MAX_TABLE: usize = HEADER
+    + ENTRY * Machine::MAX_INSTRS
+    + Machine::MAX_FRESH
+    + Machine::MAX_EXTERNALS
+    + Machine::MAX_WORDS;
+
+// Words for a text's symbols, for its draft, and for a number of each place and of the one past the last.
 const SYMBOL_WORDS: usize = 27310;
 
 const TABLE_WORDS: usize = 180240;

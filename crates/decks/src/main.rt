@@ -1,15 +1,13 @@
 // Assembles the decks that its arguments name. A line for each: its name, then 0 and the length of its table, or the number and the
 // line of its refusal [S Numbers the host sees].
 use assembler::Assembled;
+use assembler::MAX_TABLE;
 use assembler::assemble;
 use assembler::line;
 use assembler::number;
 use io::print_decimal;
 use io::write_all;
 use libc::STDOUT_FILENO;
-
-// The words of the longest table that a text may make.
-const ROOM: usize = 16872;
 
 // The table's length, or the refusal's line.
 fn detail(a: Assembled) -> u32 {
@@ -33,7 +31,7 @@ fn tell(name: &[u8], a: Assembled) {
 }
 
 fn on_text(name: &[u8], text: &[u8]) {
-    let mut table = [0u32; ROOM];
+    let mut table = [0u32; MAX_TABLE];
     tell(name, assemble(text, &mut table));
 }
 

@@ -6,6 +6,7 @@ ghost use Rattle.language.specs.Answer.{answerOf, leftOf};
 ghost use Rattle.assembler.specs.Answers.{answerView};
 ghost use Rattle.host.specs.Freezing.{upper};
 ghost use Rattle.host.specs.Cards.{assembledNumber};
+use crate::UPPER;
 use assembler::Assembled;
 use assembler::assemble;
 
@@ -15,9 +16,6 @@ const INCOMPLETE: u32 = 8;
 const OVER_LIMIT: u32 = 9;
 
 const SHORT_TABLE: u32 = 10;
-
-// A number of 1 in the upper half of an answer.
-const UPPER: u64 = 4294967296;
 
 // A number and a value as one answer.
 fn both(number: u32, value: u32) -> u64

@@ -13,29 +13,29 @@ use states::State;
 use states::bit;
 
 // Where each word stands.
-const XL: usize = 0;
+pub const XL: usize = 0;
 
-const XR: usize = 1;
+pub const XR: usize = 1;
 
-const XS: usize = 2;
+pub const XS: usize = 2;
 
-const WA: usize = 3;
+pub const WA: usize = 3;
 
-const WB: usize = 4;
+pub const WB: usize = 4;
 
-const WC: usize = 5;
+pub const WC: usize = 5;
 
-const IA: usize = 6;
+pub const IA: usize = 6;
 
-const FLAG: usize = 7;
+pub const FLAG: usize = 7;
 
-const PLACE: usize = 8;
+pub const PLACE: usize = 8;
 
-const WAITING: usize = 9;
+pub const WAITING: usize = 9;
 
-const COUNT: usize = 10;
+pub const COUNT: usize = 10;
 
-const LINKS: usize = 11;
+pub const LINKS: usize = 11;
 
 // How many words a state has.
 pub const WORDS: usize = LINKS + Machine::MAX_LINKS;

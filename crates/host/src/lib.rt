@@ -48,7 +48,7 @@ const MEMORY_LENGTH_OFF: u32 = 44;
 const SHORT_ROOM: u32 = 45;
 
 // A number of 1 in the upper half of an answer.
-const UPPER: u64 = 4294967296;
+pub const UPPER: u64 = 4294967296;
 
 // 0: the table passes its check. 30: it does not. Any words may be asked.
 #[no_mangle]

@@ -1,30 +1,23 @@
 // The eight reference runs through the compiled code, a line for each case [S Reference runs]. Of an operation: its name, the ending, steps,
 // place, WA, WB and IA; of the text: its name, the assembler's number, the words. An operation stands at place 0; it goes on at place 1, and branches to place 2.
+use host::UPPER;
 use host::cards::torzimlak_assemble;
+use host::lent::IA;
+use host::lent::PLACE;
+use host::lent::WA;
+use host::lent::WB;
+use host::lent::WORDS;
 use host::torzimlak_run;
 use host::torzimlak_start;
 use io::print_decimal;
 use io::write_all;
-
-// Words of a state, and where some of them stand.
-const STATE: usize = 267;
-
-const WA: usize = 3;
-
-const WB: usize = 4;
-
-const IA: usize = 6;
-
-const PLACE: usize = 8;
+use ops::machine::Machine;
 
 // Words of memory.
-const MEMORY: usize = 256;
+const MEMORY: usize = Machine::MIN_MEMORY;
 
 // Words for a small table.
 const ROOM: usize = 64;
-
-// The two halves of an answer.
-const UPPER: u64 = 4294967296;
 
 // A table of the operation, three branches back to it, and two working words, the first of them as given.
 fn program(op: [u32; 8], first: u32) -> [u32; 42] {
@@ -98,7 +91,7 @@ fn tell_signed(w: u32) {
 fn one_step(name: &[u8], op: [u32; 8], first: u32, wa: u32, wb: u32, ia: u32) {
     let table = program(op, first);
     let mut memory = [0u32; MEMORY];
-    let mut state = [0u32; STATE];
+    let mut state = [0u32; WORDS];
     let started = torzimlak_start(&table, &mut memory, &[], 0, &mut state);
     state[WA] = wa;
     state[WB] = wb;
