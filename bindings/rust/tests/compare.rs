@@ -3,7 +3,7 @@
 
 mod common;
 
-use common::{deck, spoil, text, Random};
+use common::{cases, deck, share, spoil, text, Random};
 use std::collections::BTreeSet;
 use torzimlak::sys;
 use torzimlak_plain::{assemble, check, machine, snapshot, Table};
@@ -47,7 +47,11 @@ fn lawful(r: &mut Random) -> Vec<u32> {
     }
 }
 
+/// Each number is met, if all cases were tried.
 fn expect_all(what: &str, seen: &BTreeSet<u32>, due: impl IntoIterator<Item = u32>) {
+    if share() != 1 {
+        return;
+    }
     for n in due {
         assert!(seen.contains(&n), "{what}: {n} was never met");
     }
@@ -76,7 +80,7 @@ fn assembles_alike(bytes: &[u8], room: usize) -> u32 {
 fn decks() {
     let mut r = Random::new(1);
     let mut seen = BTreeSet::new();
-    for i in 0..60_000 {
+    for i in 0..cases(60_000) {
         let mut d = deck(&mut r);
         for _ in 0..i % 4 {
             spoil(&mut r, &mut d);
@@ -101,7 +105,7 @@ fn decks() {
 #[test]
 fn bytes_of_any_kind() {
     let mut r = Random::new(2);
-    for i in 0..10_000 {
+    for i in 0..cases(10_000) {
         let n = r.below(300);
         let bytes: Vec<u8> = (0..n).map(|_| if i % 2 == 0 { r.next() as u8 } else { *r.pick(b" \nSECENDABC12$,=*()+-.") }).collect();
         assembles_alike(&bytes, 100);
@@ -112,7 +116,7 @@ fn bytes_of_any_kind() {
 fn tables() {
     let mut r = Random::new(3);
     let (mut good, mut bad) = (0, 0);
-    for i in 0..20_000 {
+    for i in 0..cases(20_000) {
         let mut t = lawful(&mut r);
         for _ in 0..i % 3 {
             let at = r.below(t.len());
@@ -134,14 +138,14 @@ fn tables() {
             bad += 1;
         }
     }
-    assert!(good > 1000 && bad > 1000);
+    assert!(good > cases(1000) && bad > cases(1000));
 }
 
 #[test]
 fn runs() {
     let mut r = Random::new(4);
     let mut seen = BTreeSet::new();
-    for _ in 0..15_000 {
+    for _ in 0..cases(15_000) {
         let t = lawful(&mut r);
         let m = *r.pick(&[256, 257, 300, 512]);
         let fill = r.below(3);
@@ -190,7 +194,7 @@ fn runs() {
 fn starts() {
     let mut r = Random::new(5);
     let mut seen = BTreeSet::new();
-    for _ in 0..10_000 {
+    for _ in 0..cases(10_000) {
         let mut t = lawful(&mut r);
         if r.once_in(5) {
             let at = r.below(t.len());
@@ -224,7 +228,7 @@ fn starts() {
 fn states_and_files() {
     let mut r = Random::new(6);
     let mut seen = BTreeSet::new();
-    for _ in 0..20_000 {
+    for _ in 0..cases(20_000) {
         let t = lawful(&mut r);
         let m = 256 + r.below(40);
         let mut memory: Vec<u32> = (0..m).map(|_| r.next() as u32).collect();

@@ -1,4 +1,5 @@
 //! Random decks, lawful for the most part, and ways to spoil them.
+#![allow(dead_code)]
 
 use torzimlak_plain::ops::{Class, Format, Row, Slot, ROWS};
 
@@ -30,6 +31,16 @@ impl Random {
     pub fn pick<'a, T>(&mut self, all: &'a [T]) -> &'a T {
         &all[self.below(all.len())]
     }
+}
+
+/// Cases of a test: all of them, or with TORZIMLAK_SHARE=20 in the environment, as valgrind's run has it, one in twenty.
+pub fn cases(all: usize) -> usize {
+    all.div_ceil(share())
+}
+
+/// One in how many cases is tried.
+pub fn share() -> usize {
+    std::env::var("TORZIMLAK_SHARE").map_or(1, |s| s.parse().expect("TORZIMLAK_SHARE is a number from 1"))
 }
 
 /// What a deck declares.

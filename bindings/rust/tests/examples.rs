@@ -1,0 +1,73 @@
+//! Each program of examples/ gives the answer that its comments and the guide promise.
+
+use torzimlak::{Ending, Machine, Table};
+
+const BUDGET: u32 = 10_000;
+
+fn table(name: &str) -> Table {
+    let path = format!("{}/../../examples/{name}.min", env!("CARGO_MANIFEST_DIR"));
+    Table::assemble(&std::fs::read(path).unwrap()).unwrap()
+}
+
+/// The text that a program shows where it waits: WA characters from XL on.
+fn shown(machine: &Machine) -> String {
+    let [xl, _, _, wa, ..] = machine.state().registers();
+    let byte = |a: u32| (machine.memory()[a as usize / 4] >> (8 * (a % 4))) as u8 as char;
+    (xl..xl + wa).map(byte).collect()
+}
+
+/// What a program shows at its first call of the host.
+fn first_answer(name: &str) -> String {
+    let table = table(name);
+    let mut machine = Machine::start(&table, 256, &vec![0; table.fresh_words()], 0).unwrap();
+    assert_eq!(machine.run(BUDGET).unwrap().ending, Ending::Waiting);
+    shown(&machine)
+}
+
+/// The token of a visitor with this fresh word, woken from one file.
+fn token(word: u32) -> String {
+    let table = table("token");
+    let mut warm = Machine::start(&table, 256, &[0], 0).unwrap();
+    assert_eq!(warm.run(BUDGET).unwrap().ending, Ending::Waiting);
+    let mut machine = warm.freeze(1).unwrap().wake(&table, 1, &[word]).unwrap();
+    machine.resume(0).unwrap();
+    assert_eq!(machine.run(BUDGET).unwrap().ending, Ending::Waiting);
+    shown(&machine)
+}
+
+/// What discount.min shows for a customer of this class.
+fn price(class: u32) -> String {
+    let table = table("discount");
+    let mut machine = Machine::start(&table, 256, &[], class).unwrap();
+    assert_eq!(machine.run(BUDGET).unwrap().ending, Ending::Waiting);
+    shown(&machine)
+}
+
+#[test]
+fn greeting() {
+    assert_eq!(first_answer("greeting"), "HELLO, ANNA!");
+}
+
+#[test]
+fn basket() {
+    assert_eq!(first_answer("basket"), (1999 * 2 + 450 + 5 * 12).to_string());
+}
+
+#[test]
+fn discount() {
+    for (class, left) in [(0, 100), (1, 95), (2, 90), (3, 75), (4, 100), (u32::MAX, 100)] {
+        assert_eq!(price(class), (200 * left).to_string(), "class {class}");
+    }
+}
+
+#[test]
+fn replace() {
+    assert_eq!(first_answer("replace"), "THE DOG SAW A DOGFISH AND ANOTHER DOG");
+}
+
+#[test]
+fn tokens() {
+    for word in [0, 1, 0x1234_ABCD, u32::MAX] {
+        assert_eq!(token(word), format!("{word:08X}"));
+    }
+}
