@@ -1,18 +1,17 @@
 -- The line at a place, as a scan for byte 10 finds it; and the lines behind it.
 -- Assumes nothing.
 use Prim.Native.Nat.{ℕ, _+_, _-_, _<_, _≤_}
-use mathlib.Core.Path.{_≡_, refl, ap}
+use mathlib.Core.Path.{_≡_, refl, sym, ap, _∙_}
 use mathlib.Core.Bool.{Bool, true, false}
 use mathlib.Core.List.{List, [], _∷_}
 use native.Mathlib.Omega.{arith}
-use borrow.Author.Tests.{le-ltb, lt-ltb}
+use borrow.Author.Tests.{le-ltb, lt-ltb, ltb-false, ltb-true}
 use lib.Dec.{ltb}
 use lib.ListN.{drop, drop-of-length-le, length, length-drop, take}
 use lib.Seq.{length-take-le}
 use Rattle.base.specs.Test.{if}
 use Rattle.language.specs.Text.{lines, span}
 use Rattle.language.proofs.Laws.{inLine, lines-at, span-le}
-use Rattle.asm_reader.specs.declared.Step.{Step}
 use Rattle.asm_reader.specs.declared.Step.the-variants.{Line, End}
 use Rattle.asm_reader.specs.Line.{firstLine, lineBehind, lineEnd, otherLines, stepAt, stepFrom}
 
@@ -40,7 +39,7 @@ module _ (s : List ℕ) (i e : ℕ) (h : i < length s) (q : e ≡ i + span inLin
   scan-le : e ≤ length s
   scan-le = omega (arith, span-le inLine (drop i s), length-drop i s)
 
-  line-long : length (take (e - i) (drop i s)) ≡ e - i
+  pub line-long : length (take (e - i) (drop i s)) ≡ e - i
   line-long = length-take-le (e - i) (drop i s) (omega (arith, scan-le, length-drop i s))
 
   pub step-line : Line i e ≡ stepAt s i
@@ -59,3 +58,49 @@ module _ (s : List ℕ) (i e : ℕ) (h : i < length s) (q : e ≡ i + span inLin
   pub behind-last : length s ≤ e → e ≡ lineBehind s i
   unfolding lineBehind if
   behind-last l = rw (← end-line, le-ltb e (length s) l) refl
+
+-- what a step says of the line's end
+module _ (s : List ℕ) (i : ℕ) where
+  pub end-stepped : (a e : ℕ) → stepAt s i ≡ Line a e → e ≡ lineEnd s i
+  unfolding stepAt
+  end-stepped a e = go (lines (drop i s))
+    where
+      go : (ls : List (List ℕ)) → stepFrom i ls ≡ Line a e → e ≡ i + length (firstLine ls)
+      go [] p = cc
+      go (l ∷ ls) p = cc
+
+  pub end-none : stepAt s i ≡ End → i ≡ lineEnd s i
+  unfolding stepAt
+  end-none = go (lines (drop i s))
+    where
+      go : (ls : List (List ℕ)) → stepFrom i ls ≡ End → i ≡ i + length (firstLine ls)
+      go [] p = omega arith
+      go (l ∷ ls) p = cc
+
+  pub end-le : i ≤ length s → lineEnd s i ≤ length s
+  end-le h = go (ltb i (length s)) refl
+    where
+      go : (t : Bool) → ltb i (length s) ≡ t → lineEnd s i ≤ length s
+      go true p = omega (arith, scan-le s i (i + span inLine (drop i s)) (ltb-true i (length s) p) refl, end-line s i (i + span inLine (drop i s)) (ltb-true i (length s) p) refl)
+      go false p = omega (arith, end-out s i (ltb-false i (length s) p))
+
+-- past the line, the lines left are the others
+pub lines-behind : (s : List ℕ) (i : ℕ) → lines (drop (lineBehind s i) s) ≡ otherLines (lines (drop i s))
+lines-behind s i = go (ltb i (length s)) refl
+  where
+    e : ℕ
+    e = i + span inLine (drop i s)
+
+    last : (t : Bool) → i < length s → ltb e (length s) ≡ t → lines (drop (lineBehind s i) s) ≡ lines (drop (e + 1) s)
+    last true h p = rw (← behind-more s i e h refl (ltb-true e (length s) p)) refl
+    last false h p =
+        let o : length s ≤ e = ltb-false e (length s) p in
+        rw (← behind-last s i e h refl o, none-left s e o, none-left s (e + 1) (omega arith)) refl
+
+    go : (t : Bool) → ltb i (length s) ≡ t → lines (drop (lineBehind s i) s) ≡ otherLines (lines (drop i s))
+    go true p =
+        let h : i < length s = ltb-true i (length s) p in
+        rw (lines-at s i e h refl) (last (ltb e (length s)) h refl)
+    go false p =
+        let o : length s ≤ i = ltb-false i (length s) p in
+        rw (← behind-out s i o, none-left s i o) refl

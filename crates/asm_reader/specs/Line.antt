@@ -1,10 +1,11 @@
 -- The line of a text that begins at a place: the first of the language's lines of the text from there on [S Cards].
 -- At the end of the text, and past it, no line is left; so an empty text has none, and a byte 10 at the very end begins none.
 -- Assumes nothing.
-use Prim.Native.Nat.{ℕ, _+_}
+use Prim.Native.Nat.{ℕ, _+_, _-_}
+use mathlib.Core.Path.{_≡_}
 use mathlib.Core.List.{List, [], _∷_}
 use lib.Dec.{ltb}
-use lib.ListN.{length, drop}
+use lib.ListN.{length, take, drop}
 use Rattle.base.specs.Test.{if}
 use Rattle.language.specs.Text.{lines}
 use Rattle.asm_reader.specs.declared.Step.{Step}
@@ -34,3 +35,8 @@ stepFrom at (l ∷ ls) = Line at (at + length l)
 
 unfoldable pub stepAt : List ℕ → ℕ → Step
 stepAt s at = stepFrom at (lines (drop at s))
+
+-- a reader at a place gives these lines, one after the other, and then the end
+pub data Reads : List ℕ → ℕ → List (List ℕ) → Type 0 where
+  ended : {s : List ℕ} {i : ℕ} → stepAt s i ≡ End → Reads s i []
+  line : {s : List ℕ} {i a e : ℕ} {ls : List (List ℕ)} → stepAt s i ≡ Line a e → Reads s (lineBehind s i) ls → Reads s i (take (e - a) (drop a s) ∷ ls)

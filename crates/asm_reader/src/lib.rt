@@ -50,4 +50,54 @@ impl<'a> CardReader<'a> {
     {
         CardReader { text, at }
     }
+
+    // The line that begins at the reader's place.
+    pub fn next(self) -> Step
+        ensures { λ r. ⌜ r ≡ stepAt (now (self .entry .text)) (self .entry .at) ⌝ }
+    {
+        step_at(self.text, self.at)
+    }
+
+    // The reader past that line.
+    pub fn moved(self) -> CardReader<'a>
+        ensures { λ r. ⌜ (r .text ≡ self .entry .text) × (r .at ≡ lineBehind (now (self .entry .text)) (self .entry .at)) ⌝ }
+    {
+        let at = behind_at(self.text, self.at);
+        CardReader {
+            text: self.text,
+            at,
+        }
+    }
+
+    // The reader's place.
+    pub fn place(self) -> usize
+        ensures { λ r. ⌜ r ≡ self .entry .at ⌝ }
+    {
+        self.at
+    }
+}
+
+// The line that begins at a place of a text, as a reader there gives it.
+pub fn line_at(text: &[u8], at: usize) -> Step
+    ensures { λ r. ⌜ r ≡ stepAt (now (text .entry)) at ⌝ }
+{
+    CardReader::new(text, at).next()
+}
+
+// Where a reader stands once it is past that line.
+pub fn line_behind(text: &[u8], at: usize) -> usize
+    ensures { λ r. ⌜ r ≡ lineBehind (now (text .entry)) at ⌝ }
+{
+    CardReader::new(text, at).moved().place()
+}
+
+// Where that line ends; the assembler's passes go by it.
+pub fn line_end(text: &[u8], at: usize) -> usize
+    requires { ⌜ at ≤ length (now text) ⌝ }
+    ensures { λ r. ⌜ (r ≡ lineEnd (now (text .entry)) at) × (r ≤ length (now (text .entry))) ⌝ }
+{
+    match line_at(text, at) {
+        Step::Line { start: _, end } => end,
+        Step::End => at,
+    }
 }
