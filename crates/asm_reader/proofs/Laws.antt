@@ -11,7 +11,9 @@ use lib.ListN.{drop, drop-of-length-le, length, length-drop, take}
 use lib.Seq.{length-take-le}
 use Rattle.base.specs.Test.{if}
 use Rattle.language.specs.Text.{lines, span}
-use Rattle.language.proofs.Laws.{inLine, lines-at, span-le}
+use Rattle.language.specs.Card.{Reader, cardOf, walk}
+use Rattle.language.proofs.Laws.{inLine, lines-at, span-le, walk-at}
+use Rattle.language.proofs.Places.{behind}
 use Rattle.asm_reader.specs.declared.Step.the-variants.{Line, End}
 use Rattle.asm_reader.specs.Line.{firstLine, lineBehind, lineEnd, otherLines, stepAt, stepFrom}
 
@@ -104,3 +106,52 @@ lines-behind s i = go (ltb i (length s)) refl
     go false p =
         let o : length s ≤ i = ltb-false i (length s) p in
         rw (← behind-out s i o, none-left s i o) refl
+
+-- the cards from place i on, where the line's end is e
+pub walk-line : (r : Reader) (s : List ℕ) (i e : ℕ) → i < length s → e ≡ lineEnd s i
+    → walk r (lines (drop i s)) ≡ cardOf r (take (e - i) (drop i s)) ∷ behind (cardOf r (take (e - i) (drop i s))) (lines (drop (e + 1) s))
+walk-line r s i e h q = walk-at r s i e h (q ∙ sym (end-line s i (i + span inLine (drop i s)) h refl))
+
+-- one line of a walk from line to line: a step that is a line lies in the text and moves on in it, and one line less is left; at the end none is
+module _ (s : List ℕ) (i : ℕ) where
+  pub step-inside : (a e : ℕ) → stepAt s i ≡ Line a e → i < length s
+  step-inside a e p = go (ltb i (length s)) refl
+    where
+      go : (t : Bool) → ltb i (length s) ≡ t → i < length s
+      go true q = ltb-true i (length s) q
+      go false q =
+          let o : End ≡ stepAt s i = step-out s i (ltb-false i (length s) q) in
+          let z : _≡_ {A = ℕ} 0 1 = cc in
+          omega arith
+
+  pub behind-past : i < length s → (i < lineBehind s i) × (lineBehind s i ≤ length s)
+  behind-past h = go (ltb e (length s)) refl
+    where
+      e : ℕ
+      e = i + span inLine (drop i s)
+
+      go : (t : Bool) → ltb e (length s) ≡ t → (i < lineBehind s i) × (lineBehind s i ≤ length s)
+      go true p =
+          let m = behind-more s i e h refl (ltb-true e (length s) p) in
+          let l : e < length s = ltb-true e (length s) p in
+          (omega (arith, m, span-le inLine (drop i s)), omega (arith, m, l))
+      go false p =
+          let o : length s ≤ e = ltb-false e (length s) p in
+          let m = behind-last s i e h refl o in
+          (omega (arith, m, o, h), omega (arith, m, scan-le s i e h refl))
+
+  pub lines-more : (a e : ℕ) → stepAt s i ≡ Line a e → length (lines (drop i s)) ≡ 1 + length (lines (drop (lineBehind s i) s))
+  unfolding stepAt
+  lines-more a e p = rw (lines-behind s i) (go (lines (drop i s)) p)
+    where
+      go : (ls : List (List ℕ)) → stepFrom i ls ≡ Line a e → length ls ≡ 1 + length (otherLines ls)
+      go [] q = cc
+      go (l ∷ ls) q = omega arith
+
+  pub lines-none : stepAt s i ≡ End → length (lines (drop i s)) ≡ 0
+  unfolding stepAt
+  lines-none p = go (lines (drop i s)) p
+    where
+      go : (ls : List (List ℕ)) → stepFrom i ls ≡ End → length ls ≡ 0
+      go [] q = refl
+      go (l ∷ ls) q = cc

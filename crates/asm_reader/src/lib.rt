@@ -21,7 +21,7 @@ pub enum Step {
 }
 
 // The line that begins at a place of a text.
-pub fn step_at(text: &[u8], at: usize) -> Step
+fn step_at(text: &[u8], at: usize) -> Step
     ensures { λ r. ⌜ r ≡ stepAt (now (text .entry)) at ⌝ }
 {
     if at < text.len() {
@@ -33,7 +33,7 @@ pub fn step_at(text: &[u8], at: usize) -> Step
 }
 
 // Where the line behind it begins.
-pub fn behind_at(text: &[u8], at: usize) -> usize
+fn behind_at(text: &[u8], at: usize) -> usize
     ensures { λ r. ⌜ r ≡ lineBehind (now (text .entry)) at ⌝ }
 {
     if text.len() <= at {
