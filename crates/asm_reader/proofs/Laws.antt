@@ -28,13 +28,11 @@ module _ (s : List ℕ) (i : ℕ) (h : length s ≤ i) where
   step-out = rw none-left refl
 
   pub end-out : i ≡ lineEnd s i
-  end-out = rw none-left (omega arith)
+  end-out = let z : length (firstLine (lines (drop i s))) ≡ 0 = rw none-left refl in omega arith
 
   pub behind-out : i ≡ lineBehind s i
   unfolding lineBehind if
-  behind-out =
-      let e : lineEnd s i ≡ i = rw none-left (omega arith) in
-      rw (e, le-ltb i (length s) h) refl
+  behind-out = let e : lineEnd s i ≡ i = sym end-out in rw (e, le-ltb i (length s) h) refl
 
 -- the line from i, whose end e a scan finds
 module _ (s : List ℕ) (i e : ℕ) (h : i < length s) (q : e ≡ i + span inLine (drop i s)) where
@@ -47,11 +45,13 @@ module _ (s : List ℕ) (i e : ℕ) (h : i < length s) (q : e ≡ i + span inLin
   pub step-line : Line i e ≡ stepAt s i
   unfolding stepAt
   step-line =
-      let m : i + length (take (e - i) (drop i s)) ≡ e = omega (arith, line-long) in
-      rw (lines-at s i e h q, m) refl
+      let m : e ≡ i + length (take (e - i) (drop i s)) = omega (arith, line-long) in
+      ap (Line i) m ∙ ap (stepFrom i) (sym (lines-at s i e h q))
 
   pub end-line : e ≡ lineEnd s i
-  end-line = rw (lines-at s i e h q) (omega (arith, line-long))
+  end-line =
+      let z : length (firstLine (lines (drop i s))) ≡ e - i = ap (λ (ls : List (List ℕ)). length (firstLine ls)) (lines-at s i e h q) ∙ line-long in
+      omega arith
 
   pub behind-more : e < length s → e + 1 ≡ lineBehind s i
   unfolding lineBehind if
