@@ -1,6 +1,6 @@
 -- A reader that begins at a text's start gives all the lines of the text, and no other [S Cards].
 -- Assumes nothing.
-use Prim.Native.Nat.{ℕ, _+_, _-_, _<_, _≤_}
+use Prim.Native.Nat.{ℕ, _+_, _-_, _<_}
 use mathlib.Core.Path.{_≡_, refl, sym, ap, _∙_}
 use mathlib.Core.Bool.{Bool, true, false}
 use mathlib.Core.List.{List, [], _∷_}
@@ -41,3 +41,22 @@ reads-from s i (l ∷ ls) p =
 
 pub reads-all : (s : List ℕ) → Reads s 0 (lines s)
 reads-all s = reads-from s 0 (lines s) refl
+
+-- and a reader gives no other lines than those left
+pub reads-only : {s : List ℕ} {i : ℕ} {ls : List (List ℕ)} → Reads s i ls → ls ≡ lines (drop i s)
+unfolding stepAt
+reads-only (ended {s} {i} p) = go (lines (drop i s)) p
+  where
+    go : (ks : List (List ℕ)) → stepFrom i ks ≡ End → [] ≡ ks
+    go [] q = refl
+    go (k ∷ ks) q = cc
+reads-only (line {s} {i} {a} {e} {ls} p r) = go (lines (drop i s)) refl p (reads-only r)
+  where
+    go : (ks : List (List ℕ)) → lines (drop i s) ≡ ks → stepFrom i ks ≡ Line a e → ls ≡ lines (drop (lineBehind s i) s) → take (e - a) (drop a s) ∷ ls ≡ ks
+    go [] q f o = cc
+    go (k ∷ ks) q f o =
+        let first : a ≡ i = cc in
+        let last : e ≡ i + length k = cc in
+        let l : take (e - a) (drop a s) ≡ k = rw (first, last) (first-bytes s i k ks q) in
+        let rest : ls ≡ ks = o ∙ (lines-behind s i ∙ ap otherLines q) in
+        cc

@@ -21,14 +21,18 @@ enum-told c = search needs
 -- a line
 returns : tie.Need-returns
 returns c =
-    let e = end-stepped (now (c .before .before .before .before .before .args .text)) (c .before .before .before .before .before .args .at) _ _ (sym (c .before .before .before .line-at .ensures) ∙ c .before .end .given .1) in
-    (e, omega (arith, e, end-le (now (c .before .before .before .before .before .args .text)) (c .before .before .before .before .before .args .at) (c .before .before .before .before .before .pre)))
+    let at-start = c .before .before .before .before .before in
+    let s = now (at-start .args .text) in
+    let i = at-start .args .at in
+    let e = end-stepped s i _ _ (sym (c .before .before .before .line-at .ensures) ∙ c .before .end .given .1) in
+    (e, omega (arith, e, end-le s i (at-start .pre)))
 
 -- the end of the text
 returns-2 : tie.Need-returns-2
 returns-2 c =
-    let e = end-none (now (c .before .before .before .before .args .text)) (c .before .before .before .before .args .at) (sym (c .before .before .line-at .ensures) ∙ c .enum-told .given .1) in
-    (e, c .before .before .before .before .pre)
+    let at-start = c .before .before .before .before in
+    let e = end-none (now (at-start .args .text)) (at-start .args .at) (sym (c .before .before .line-at .ensures) ∙ c .enum-told .given .1) in
+    (e, at-start .pre)
 
 pub line-end-spec : {M : Type 1} → statement M
 line-end-spec = tie.close (tie.spec line-at-requires enum-known-end enum-told returns returns-2)

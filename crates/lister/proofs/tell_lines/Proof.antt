@@ -1,7 +1,7 @@
 -- `lister::tell_lines` meets its contract. Invariant: the lines told and those left are the text's; no more lines are told than bytes are passed.
 -- The measure is what is left of the text. Assumes nothing.
 use Prim.Native.Nat.{_+_, _-_, _≤_}
-use mathlib.Core.Path.{_≡_, refl, sym, ap, _∙_}
+use mathlib.Core.Path.{_≡_, refl, sym, _∙_}
 use native.Mathlib.Omega.{arith}
 use borrow.Author.Needs.{needs}
 use denote.Ref.{now}
@@ -32,12 +32,17 @@ enum-told c = search needs
 
 -- no line is left
 returns : tie.Need-returns Inv-loop μ-loop
-returns c = omega (arith, c .before .before .before .loop .inv .0, lines-none (now (c .before .before .before .before .before .args .text)) (c .before .before .before .loop .at) (sym (c .before .before .line-at .ensures) ∙ c .enum-told .given .1))
+returns c =
+    let in-loop = c .before .before .before in
+    let s = now (in-loop .before .before .args .text) in
+    omega (arith, in-loop .loop .inv .0, lines-none s (in-loop .loop .at) (sym (c .before .before .line-at .ensures) ∙ c .enum-told .given .1))
 
 add-number : tie.Need-add-number Inv-loop μ-loop
 add-number c =
-    let h = step-inside (now (c .before .before .before .before .before .before .args .text)) (c .before .before .before .before .loop .at) _ _ (sym (c .before .before .before .line-at .ensures) ∙ c .before .start .given .1) in
-    omega (arith, h, c .before .before .before .before .loop .inv .1)
+    let in-loop = c .before .before .before .before in
+    let s = now (in-loop .before .before .args .text) in
+    let h = step-inside s (in-loop .loop .at) _ _ (sym (c .before .before .before .line-at .ensures) ∙ c .before .start .given .1) in
+    omega (arith, h, in-loop .loop .inv .1)
 
 tell-line-requires : tie.Need-tell-line-requires Inv-loop μ-loop
 tell-line-requires c κs = search needs
@@ -47,19 +52,27 @@ line-behind-requires c κs = search needs
 
 loop-less : tie.Need-loop-less Inv-loop μ-loop
 loop-less c =
-    let h = step-inside (now (c .before .before .before .before .before .before .before .before .args .text)) (c .before .before .before .before .before .before .loop .at) _ _ (sym (c .before .before .before .before .before .line-at .ensures) ∙ c .before .before .before .start .given .1) in
-    let b = behind-past (now (c .before .before .before .before .before .before .before .before .args .text)) (c .before .before .before .before .before .before .loop .at) h in
+    let in-loop = c .before .before .before .before .before .before in
+    let s = now (in-loop .before .before .args .text) in
+    let i = in-loop .loop .at in
+    let h = step-inside s i _ _ (sym (c .before .before .before .before .before .line-at .ensures) ∙ c .before .before .before .start .given .1) in
+    let b = behind-past s i h in
     omega (arith, h, b .0, b .1, c .line-behind .ensures)
 
 -- a line more is told, and one less is left
 loop-again : tie.Need-loop-again Inv-loop μ-loop
 loop-again c =
-    let s = now (c .before .before .before .before .before .before .before .before .args .text) in
+    let in-loop = c .before .before .before .before .before .before in
+    let s = now (in-loop .before .before .args .text) in
+    let i = in-loop .loop .at in
     let p = sym (c .before .before .before .before .before .line-at .ensures) ∙ c .before .before .before .start .given .1 in
-    let h = step-inside s (c .before .before .before .before .before .before .loop .at) _ _ p in
-    let b = behind-past s (c .before .before .before .before .before .before .loop .at) h in
-    let n : length (lines (drop (c .line-behind .result) s)) ≡ length (lines (drop (lineBehind s (c .before .before .before .before .before .before .loop .at)) s)) = rw (c .line-behind .ensures) refl in
-    (omega (arith, c .before .before .before .before .before .before .loop .inv .0, lines-more s (c .before .before .before .before .before .before .loop .at) _ _ p, n), omega (arith, b .0, c .line-behind .ensures, c .before .before .before .before .before .before .loop .inv .1), omega (arith, b .1, c .line-behind .ensures))
+    let h = step-inside s i _ _ p in
+    let b = behind-past s i h in
+    let n : length (lines (drop (c .line-behind .result) s)) ≡ length (lines (drop (lineBehind s i) s)) = rw (c .line-behind .ensures) refl in (
+      omega (arith, in-loop .loop .inv .0, lines-more s i _ _ p, n),
+      omega (arith, b .0, c .line-behind .ensures, in-loop .loop .inv .1),
+      omega (arith, b .1, c .line-behind .ensures),
+    )
 
 pub tell-lines-spec : {M : Type 1} → statement M
 tell-lines-spec =
