@@ -10,12 +10,13 @@ use lib.Dec.{eqb}
 use lib.ListN.{drop, drop-of-length-le, length, length-drop, take}
 use lib.Seq.{length-take-le}
 use Rattle.base.specs.Test.{if}
-use Rattle.language.specs.Text.{lines, maxBytes, span}
+use Rattle.language.specs.Text.{lines, maxBytes}
 use Rattle.language.specs.Operation.{END, isAssembly}
 use Rattle.language.specs.Card.{Card, Reader, cardOf, cardsOf, past, start, walk}
 use Rattle.language.specs.Image.{symbolsFrom, symbolsOf}
-use Rattle.language.proofs.Laws.{inLine, walk-at}
 use Rattle.language.proofs.Places.{behind}
+use Rattle.asm_reader.specs.Line.{lineEnd}
+use Rattle.asm_reader.proofs.Laws.{walk-line}
 use Rattle.asm_types.specs.Views as Views
 use Rattle.asm_types.specs.Views.{symbolsIn}
 use Rattle.asm_cards.specs.Reading.{Counted}
@@ -96,7 +97,7 @@ all-collected s xs n i k left v e h =
 
 -- one card: c is that of the line from i to e, its symbol is stored and it is counted
 module _ (s xs ys : List ℕ) (n m i e : ℕ) (k j : Counts) (r : Reader) (c : Card) (v : Collecting s xs n i k (walk r (lines (drop i s))))
-    (h : i < length s) (q : e ≡ i + span inLine (drop i s)) (le : e ≤ length s) (card : c ≡ cardOf r (lineAt s i e))
+    (h : i < length s) (q : e ≡ lineEnd s i) (le : e ≤ length s) (card : c ≡ cardOf r (lineAt s i e))
     (stored : Stored xs n c ys m) (tally : j ≡ tallied k c) where
   line-long : length (lineAt s i e) ≡ e - i
   line-long = length-take-le (e - i) (drop i s) (omega (arith, length-drop i s))
@@ -108,9 +109,9 @@ module _ (s xs ys : List ℕ) (n m i e : ℕ) (k j : Counts) (r : Reader) (c : C
   unfolding symbolsFrom tallyFrom
   collecting-card =
       let a : symbolsFrom (symbolsIn xs n) (cardOf r (lineAt s i e) ∷ behind (cardOf r (lineAt s i e)) (lines (drop (e + 1) s))) ≡ symbolsOf (cardsOf s) =
-      rw (walk-at r s i e h q) at (v .symbols) in
+      rw (walk-line r s i e h q) at (v .symbols) in
       let b : tallyFrom k (cardOf r (lineAt s i e) ∷ behind (cardOf r (lineAt s i e)) (lines (drop (e + 1) s))) ≡ tallyFrom untallied (cardsOf s) =
-      rw (walk-at r s i e h q) at (v .counts) in
+      rw (walk-line r s i e h q) at (v .counts) in
       record {
         read-le = omega arith;
         labels-le = omega (arith, bytes, labels-more n m i r (lineAt s i e) (rw card at (stored .count)) (v .labels-le));

@@ -16,8 +16,7 @@ use crate::numbers::counted;
 use asm_cards::card_of;
 use asm_cards::is_closing;
 use asm_cards::past;
-use asm_text::NEWLINE;
-use asm_text::find_byte;
+use asm_reader::line_end;
 use asm_types::Reader;
 use ops::table::Operations;
 
@@ -76,7 +75,7 @@ pub fn collect(list: &Operations, text: &[u8], syms: &mut [u64]) -> Collected
     let mut n: usize = 0;
     let mut at: usize = 0;
     while at < text.len() {
-        let e = find_byte(text, at, NEWLINE);
+        let e = line_end(text, at);
         let c = card_of(list, r, &text[at..e]);
         n = store_symbol(list, c, &text[at..e], syms, n);
         k = counted(k, c, &text[at..e]);

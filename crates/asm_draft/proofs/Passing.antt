@@ -8,12 +8,13 @@ use mathlib.Core.List.{List, [], _++_}
 use lib.ListN.{drop, drop-of-length-le, length, length-drop, take}
 use lib.Seq.{length-take-le}
 use Rattle.base.specs.Test.{if}
-use Rattle.language.specs.Text.{lines, maxBytes, span}
+use Rattle.language.specs.Text.{lines, maxBytes}
 use Rattle.language.specs.Operation.{END, isAssembly}
 use Rattle.language.specs.Card.{Card, Reader, cardOf, cardsOf, past, start, walk}
 use Rattle.language.specs.Image.{flat}
-use Rattle.language.proofs.Laws.{inLine, walk-at}
 use Rattle.language.proofs.Places.{behind}
+use Rattle.asm_reader.specs.Line.{lineEnd}
+use Rattle.asm_reader.proofs.Laws.{walk-line}
 use Rattle.asm_cards.specs.Reading.{Counted}
 use Rattle.asm_cards.proofs.Counting.{counted-more, counted-past, counted-start}
 use Rattle.asm_draft.specs.Written.{Written}
@@ -40,7 +41,7 @@ unfolding cardOf
 card-line k r s e = ap (λ (x : Card). x .line) e
 
 module _ (f : Card → List ℕ) (text old : List ℕ) (first : ℕ) (out : List ℕ) (w i : ℕ) (r : Reader) (v : Passing f text old first out w i r)
-    (e : ℕ) (h : i < length text) (q : e ≡ i + span inLine (drop i text)) (le : e ≤ length text) where
+    (e : ℕ) (h : i < length text) (q : e ≡ lineEnd text i) (le : e ≤ length text) where
   abbrev line : List ℕ
   line = take (e - i) (drop i text)
 
@@ -49,7 +50,7 @@ module _ (f : Card → List ℕ) (text old : List ℕ) (first : ℕ) (out : List
 
   module _ (k : Card) (ek : k ≡ cardOf r line) where
     split : Filling old first (flat f (cardsOf text)) out w (f k ++ flat f (behind k (lines (drop (e + 1) text))))
-    split = rw (walk-at r text i e h q, ← ek) at (v .so-far)
+    split = rw (walk-line r text i e h q, ← ek) at (v .so-far)
 
     pub passing-room : w + length (f k) ≤ length out
     passing-room =

@@ -19,8 +19,7 @@ use crate::store::put_eight;
 use asm_cards::card_of;
 use asm_cards::is_closing;
 use asm_cards::past;
-use asm_text::NEWLINE;
-use asm_text::find_byte;
+use asm_reader::line_end;
 use asm_types::Card;
 use asm_types::Reader;
 use ops::table::Operations;
@@ -96,7 +95,7 @@ fn pass(
         if is_over(part, r.opened) {
             return w;
         }
-        let to = find_byte(text, from, NEWLINE);
+        let to = line_end(text, from);
         let c = card_of(list, r, &text[from..to]);
         w = put_part(list, c, &text[from..to], syms, n, part, draft, w);
         if is_closing(c) {

@@ -11,14 +11,15 @@ use lib.ListN.{drop, drop-of-length-le, length, length-drop, take}
 use lib.Seq.{length-take-le}
 use Rattle.base.specs.Test.{if}
 use Rattle.shapes.proofs.Tests.{if-no, if-yes}
-use Rattle.language.specs.Text.{lines, span}
+use Rattle.language.specs.Text.{lines}
 use Rattle.language.specs.Operation.{END, isAssembly}
 use Rattle.language.specs.Card.{Card, Reader, cardOf, cardsOf, holdsPlace, one, past, start, walk}
 use Rattle.language.specs.Image.{count}
 use Rattle.language.specs.Fault.{Deck, faultOf}
 use Rattle.language.specs.Answer.{Answer, faulty, firstFault, refused}
 use Rattle.language.proofs.Places.{behind}
-use Rattle.language.proofs.Laws.{inLine, walk-at}
+use Rattle.asm_reader.specs.Line.{lineEnd}
+use Rattle.asm_reader.proofs.Laws.{walk-line}
 use Rattle.asm_cards.specs.Reading.{Counted}
 use Rattle.asm_cards.proofs.Counting.{counted-past, counted-start}
 use Rattle.assembler.specs.Judges.{PlaceBelow}
@@ -36,12 +37,12 @@ judging-start text d size e = record { inside = omega arith; counted = counted-s
 
 -- a line with the card k
 module _ (text : List ℕ) (d : Deck) (size : ℕ) (r : Reader) (i e : ℕ) (v : Judging text d size r i) (h : i < length text)
-    (q : e ≡ i + span inLine (drop i text)) (k : Card) (k-is : k ≡ cardOf r (take (e - i) (drop i text))) where
+    (q : e ≡ lineEnd text i) (k : Card) (k-is : k ≡ cardOf r (take (e - i) (drop i text))) where
   abbrev below : List Card
   below = behind k (lines (drop (e + 1) text))
 
   split : walk r (lines (drop i text)) ≡ k ∷ below
-  split = rw k-is (walk-at r text i e h q)
+  split = rw k-is (walk-line r text i e h q)
 
   spot-is : k .spot ≡ r
   unfolding cardOf

@@ -14,8 +14,7 @@ use asm_cards::card_of;
 use asm_cards::is_closing;
 use asm_cards::past;
 use asm_faults::fault_of;
-use asm_text::NEWLINE;
-use asm_text::find_byte;
+use asm_reader::line_end;
 use asm_types::Card;
 use asm_types::Reader;
 use ops::table::Operations;
@@ -78,7 +77,7 @@ pub fn judge(
     };
     let mut from: usize = 0;
     while from < text.len() {
-        let to = find_byte(text, from, NEWLINE);
+        let to = line_end(text, from);
         let c = card_of(list, r, &text[from..to]);
         let f = line_fault(
             list,

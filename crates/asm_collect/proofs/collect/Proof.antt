@@ -27,8 +27,8 @@ loop-holds : tie.Need-loop-holds Inv-loop μ-loop
 loop-holds c = (collecting-none (now (c .before .before .args .text)) (now (c .before .before .args .syms)) (c .before .before .pre .2), counted-start, refl)
 
 -- src/lib.rt:77:13
-find-byte-requires : tie.Need-find-byte-requires Inv-loop μ-loop
-find-byte-requires c κs = search needs
+line-end-requires : tie.Need-line-end-requires Inv-loop μ-loop
+line-end-requires c κs = search needs
 
 -- src/lib.rt:78:34
 sub-card-of : tie.Need-sub-card-of Inv-loop μ-loop
@@ -60,7 +60,7 @@ part-store-symbol-end c = search needs
 
 -- src/lib.rt:79:9
 store-symbol-requires : tie.Need-store-symbol-requires Inv-loop μ-loop
-store-symbol-requires c κs = (c .before .before .before .before .before .before .before .before .before .pre .0, c .before .before .before .before .before .before .loop .inv .0 .symbolic, omega (arith, c .before .before .before .before .before .before .loop .inv .0 .labels-le, c .before .before .before .before .before .before .loop .inv .0 .room, c .before .before .before .before .before .loop-test .taken, c .before .before .before .before .before .before .before .before .before .pre .1), spot-counted (c .before .before .before .before .before .before .loop .at) (readerView (c .before .before .before .before .before .before .loop .r)) (cardView (c .before .before .card-of .result) (lineAt (now (c .before .before .before .before .before .before .before .before .before .args .text)) (c .before .before .before .before .before .before .loop .at) (c .before .before .before .before .find-byte .result))) (lineAt (now (c .before .before .before .before .before .before .before .before .before .args .text)) (c .before .before .before .before .before .before .loop .at) (c .before .before .before .before .find-byte .result)) (c .before .before .card-of .ensures) (omega (arith, c .before .before .before .before .before .loop-test .taken, c .before .before .before .before .before .before .before .before .before .pre .1)) (c .before .before .before .before .before .before .loop .inv .1))
+store-symbol-requires c κs = (c .before .before .before .before .before .before .before .before .before .pre .0, c .before .before .before .before .before .before .loop .inv .0 .symbolic, omega (arith, c .before .before .before .before .before .before .loop .inv .0 .labels-le, c .before .before .before .before .before .before .loop .inv .0 .room, c .before .before .before .before .before .loop-test .taken, c .before .before .before .before .before .before .before .before .before .pre .1), spot-counted (c .before .before .before .before .before .before .loop .at) (readerView (c .before .before .before .before .before .before .loop .r)) (cardView (c .before .before .card-of .result) (lineAt (now (c .before .before .before .before .before .before .before .before .before .args .text)) (c .before .before .before .before .before .before .loop .at) (c .before .before .before .before .line-end .result))) (lineAt (now (c .before .before .before .before .before .before .before .before .before .args .text)) (c .before .before .before .before .before .before .loop .at) (c .before .before .before .before .line-end .result)) (c .before .before .card-of .ensures) (omega (arith, c .before .before .before .before .before .loop-test .taken, c .before .before .before .before .before .before .before .before .before .pre .1)) (c .before .before .before .before .before .before .loop .inv .1))
 
 -- src/lib.rt:80:27
 sub-counted : tie.Need-sub-counted Inv-loop μ-loop
@@ -76,7 +76,7 @@ part-counted-end c = search needs
 
 -- src/lib.rt:80:9
 counted-requires : tie.Need-counted-requires Inv-loop μ-loop
-counted-requires c κs = (within-more (c .before .before .before .before .before .before .before .before .before .before .loop .at) (maxBytes + 1) (c .before .before .before .before .before .before .before .before .before .before .loop .k) (omega (arith, c .before .before .before .before .before .before .before .before .before .loop-test .taken, c .before .before .before .before .before .before .before .before .before .before .before .before .before .pre .1)) (c .before .before .before .before .before .before .before .before .before .before .loop .inv .0 .within), omega (arith, length-take (c .before .before .before .before .before .before .before .before .find-byte .result - c .before .before .before .before .before .before .before .before .before .before .loop .at) (drop (c .before .before .before .before .before .before .before .before .before .before .loop .at) (now (c .before .before .before .before .before .before .before .before .before .before .before .before .before .args .text))), c .before .before .before .before .before .before .before .before .find-byte .ensures .1, c .before .before .before .before .before .before .before .before .before .before .before .before .before .pre .1))
+counted-requires c κs = (within-more (c .before .before .before .before .before .before .before .before .before .before .loop .at) (maxBytes + 1) (c .before .before .before .before .before .before .before .before .before .before .loop .k) (omega (arith, c .before .before .before .before .before .before .before .before .before .loop-test .taken, c .before .before .before .before .before .before .before .before .before .before .before .before .before .pre .1)) (c .before .before .before .before .before .before .before .before .before .before .loop .inv .0 .within), omega (arith, length-take (c .before .before .before .before .before .before .before .before .line-end .result - c .before .before .before .before .before .before .before .before .before .before .loop .at) (drop (c .before .before .before .before .before .before .before .before .before .before .loop .at) (now (c .before .before .before .before .before .before .before .before .before .before .before .before .before .args .text))), c .before .before .before .before .before .before .before .before .line-end .ensures .1, c .before .before .before .before .before .before .before .before .before .before .before .before .before .pre .1))
 
 -- src/lib.rt:81:12
 is-closing-requires : tie.Need-is-closing-requires Inv-loop μ-loop
@@ -92,7 +92,7 @@ same-length c = c .before .before .before .before .before .before .before .store
 
 -- src/lib.rt:82:13
 returns : tie.Need-returns Inv-loop μ-loop
-returns c = rw (c .gathered .ensures) (ends-card (now (c .before .before .before .before .before .before .before .before .before .before .before .before .before .before .before .before .before .args .text)) (c .before .before .before .before .before .before .before .before .before .before .before .before .before .before .loop .syms) _ (c .before .before .before .before .before .before .before .before .before .before .before .before .before .before .loop .n) (c .before .before .before .before .before .before .before .store-symbol .result) (c .before .before .before .before .before .before .before .before .before .before .before .before .before .before .loop .at) (c .before .before .before .before .before .before .before .before .before .before .before .before .find-byte .result) (c .before .before .before .before .before .before .before .before .before .before .before .before .before .before .loop .k) (c .before .before .before .counted .result) (readerView (c .before .before .before .before .before .before .before .before .before .before .before .before .before .before .loop .r)) (cardView (c .before .before .before .before .before .before .before .before .before .before .card-of .result) (lineAt (now (c .before .before .before .before .before .before .before .before .before .before .before .before .before .before .before .before .before .args .text)) (c .before .before .before .before .before .before .before .before .before .before .before .before .before .before .loop .at) (c .before .before .before .before .before .before .before .before .before .before .before .before .find-byte .result))) (c .before .before .before .before .before .before .before .before .before .before .before .before .before .before .loop .inv .0) (c .before .before .before .before .before .before .before .before .before .before .before .before .before .loop-test .taken) (c .before .before .before .before .before .before .before .before .before .before .before .before .find-byte .ensures .0) (c .before .before .before .before .before .before .before .before .before .before .before .before .find-byte .ensures .1) (c .before .before .before .before .before .before .before .before .before .before .card-of .ensures) (c .before .before .before .before .before .before .before .store-symbol .ensures) (c .before .before .before .counted .ensures) (sym (c .before .before .is-closing .ensures) ∙ c .before .if1 .taken) (c .before .before .before .before .before .before .before .before .before .before .before .before .before .before .before .before .before .pre .1))
+returns c = rw (c .gathered .ensures) (ends-card (now (c .before .before .before .before .before .before .before .before .before .before .before .before .before .before .before .before .before .args .text)) (c .before .before .before .before .before .before .before .before .before .before .before .before .before .before .loop .syms) _ (c .before .before .before .before .before .before .before .before .before .before .before .before .before .before .loop .n) (c .before .before .before .before .before .before .before .store-symbol .result) (c .before .before .before .before .before .before .before .before .before .before .before .before .before .before .loop .at) (c .before .before .before .before .before .before .before .before .before .before .before .before .line-end .result) (c .before .before .before .before .before .before .before .before .before .before .before .before .before .before .loop .k) (c .before .before .before .counted .result) (readerView (c .before .before .before .before .before .before .before .before .before .before .before .before .before .before .loop .r)) (cardView (c .before .before .before .before .before .before .before .before .before .before .card-of .result) (lineAt (now (c .before .before .before .before .before .before .before .before .before .before .before .before .before .before .before .before .before .args .text)) (c .before .before .before .before .before .before .before .before .before .before .before .before .before .before .loop .at) (c .before .before .before .before .before .before .before .before .before .before .before .before .line-end .result))) (c .before .before .before .before .before .before .before .before .before .before .before .before .before .before .loop .inv .0) (c .before .before .before .before .before .before .before .before .before .before .before .before .before .loop-test .taken) (c .before .before .before .before .before .before .before .before .before .before .before .before .line-end .ensures .0) (c .before .before .before .before .before .before .before .before .before .before .before .before .line-end .ensures .1) (c .before .before .before .before .before .before .before .before .before .before .card-of .ensures) (c .before .before .before .before .before .before .before .store-symbol .ensures) (c .before .before .before .counted .ensures) (sym (c .before .before .is-closing .ensures) ∙ c .before .if1 .taken) (c .before .before .before .before .before .before .before .before .before .before .before .before .before .before .before .before .before .pre .1))
 
 -- src/lib.rt:84:21
 sub-past : tie.Need-sub-past Inv-loop μ-loop
@@ -108,11 +108,11 @@ part-past-end c = search needs
 
 -- src/lib.rt:84:9
 past-requires : tie.Need-past-requires Inv-loop μ-loop
-past-requires c κs = (spot-counted (c .before .before .before .before .before .before .before .before .before .before .before .before .before .before .loop .at) (readerView (c .before .before .before .before .before .before .before .before .before .before .before .before .before .before .loop .r)) (cardView (c .before .before .before .before .before .before .before .before .before .before .card-of .result) (lineAt (now (c .before .before .before .before .before .before .before .before .before .before .before .before .before .before .before .before .before .args .text)) (c .before .before .before .before .before .before .before .before .before .before .before .before .before .before .loop .at) (c .before .before .before .before .before .before .before .before .before .before .before .before .find-byte .result))) (lineAt (now (c .before .before .before .before .before .before .before .before .before .before .before .before .before .before .before .before .before .args .text)) (c .before .before .before .before .before .before .before .before .before .before .before .before .before .before .loop .at) (c .before .before .before .before .before .before .before .before .before .before .before .before .find-byte .result)) (c .before .before .before .before .before .before .before .before .before .before .card-of .ensures) (omega (arith, c .before .before .before .before .before .before .before .before .before .before .before .before .before .loop-test .taken, c .before .before .before .before .before .before .before .before .before .before .before .before .before .before .before .before .before .pre .1)) (c .before .before .before .before .before .before .before .before .before .before .before .before .before .before .loop .inv .1), omega (arith, length-take (c .before .before .before .before .before .before .before .before .before .before .before .before .find-byte .result - c .before .before .before .before .before .before .before .before .before .before .before .before .before .before .loop .at) (drop (c .before .before .before .before .before .before .before .before .before .before .before .before .before .before .loop .at) (now (c .before .before .before .before .before .before .before .before .before .before .before .before .before .before .before .before .before .args .text))), c .before .before .before .before .before .before .before .before .before .before .before .before .find-byte .ensures .1, c .before .before .before .before .before .before .before .before .before .before .before .before .before .before .before .before .before .pre .1))
+past-requires c κs = (spot-counted (c .before .before .before .before .before .before .before .before .before .before .before .before .before .before .loop .at) (readerView (c .before .before .before .before .before .before .before .before .before .before .before .before .before .before .loop .r)) (cardView (c .before .before .before .before .before .before .before .before .before .before .card-of .result) (lineAt (now (c .before .before .before .before .before .before .before .before .before .before .before .before .before .before .before .before .before .args .text)) (c .before .before .before .before .before .before .before .before .before .before .before .before .before .before .loop .at) (c .before .before .before .before .before .before .before .before .before .before .before .before .line-end .result))) (lineAt (now (c .before .before .before .before .before .before .before .before .before .before .before .before .before .before .before .before .before .args .text)) (c .before .before .before .before .before .before .before .before .before .before .before .before .before .before .loop .at) (c .before .before .before .before .before .before .before .before .before .before .before .before .line-end .result)) (c .before .before .before .before .before .before .before .before .before .before .card-of .ensures) (omega (arith, c .before .before .before .before .before .before .before .before .before .before .before .before .before .loop-test .taken, c .before .before .before .before .before .before .before .before .before .before .before .before .before .before .before .before .before .pre .1)) (c .before .before .before .before .before .before .before .before .before .before .before .before .before .before .loop .inv .1), omega (arith, length-take (c .before .before .before .before .before .before .before .before .before .before .before .before .line-end .result - c .before .before .before .before .before .before .before .before .before .before .before .before .before .before .loop .at) (drop (c .before .before .before .before .before .before .before .before .before .before .before .before .before .before .loop .at) (now (c .before .before .before .before .before .before .before .before .before .before .before .before .before .before .before .before .before .args .text))), c .before .before .before .before .before .before .before .before .before .before .before .before .line-end .ensures .1, c .before .before .before .before .before .before .before .before .before .before .before .before .before .before .before .before .before .pre .1))
 
 -- src/lib.rt:85:14
 add-at : tie.Need-add-at Inv-loop μ-loop
-add-at c = omega (arith, c .before .before .before .before .before .before .before .before .before .before .before .before .before .find-byte .ensures .1, c .before .before .before .before .before .before .before .before .before .before .before .before .before .before .before .before .before .before .pre .1)
+add-at c = omega (arith, c .before .before .before .before .before .before .before .before .before .before .before .before .before .line-end .ensures .1, c .before .before .before .before .before .before .before .before .before .before .before .before .before .before .before .before .before .before .pre .1)
 
 -- src/lib.rt:76:5
 loop-less : tie.Need-loop-less Inv-loop μ-loop
@@ -121,7 +121,7 @@ loop-less c = search needs
 -- src/lib.rt:76:5
 loop-again : tie.Need-loop-again Inv-loop μ-loop
 loop-again c =
-    let g = goes-on (now (c .before .before .before .before .before .before .before .before .before .before .before .before .before .before .before .before .before .before .args .text)) (c .before .before .before .before .before .before .before .before .before .before .before .before .before .before .before .loop .syms) _ (c .before .before .before .before .before .before .before .before .before .before .before .before .before .before .before .loop .n) (c .before .before .before .before .before .before .before .before .store-symbol .result) (c .before .before .before .before .before .before .before .before .before .before .before .before .before .before .before .loop .at) (c .before .before .before .before .before .before .before .before .before .before .before .before .before .find-byte .result) (c .before .before .before .before .before .before .before .before .before .before .before .before .before .before .before .loop .k) (c .before .before .before .before .counted .result) (readerView (c .before .before .before .before .before .before .before .before .before .before .before .before .before .before .before .loop .r)) (cardView (c .before .before .before .before .before .before .before .before .before .before .before .card-of .result) (lineAt (now (c .before .before .before .before .before .before .before .before .before .before .before .before .before .before .before .before .before .before .args .text)) (c .before .before .before .before .before .before .before .before .before .before .before .before .before .before .before .loop .at) (c .before .before .before .before .before .before .before .before .before .before .before .before .before .find-byte .result))) (c .before .before .before .before .before .before .before .before .before .before .before .before .before .before .before .loop .inv .0) (c .before .before .before .before .before .before .before .before .before .before .before .before .before .before .loop-test .taken) (c .before .before .before .before .before .before .before .before .before .before .before .before .before .find-byte .ensures .0) (c .before .before .before .before .before .before .before .before .before .before .before .before .before .find-byte .ensures .1) (c .before .before .before .before .before .before .before .before .before .before .before .card-of .ensures) (c .before .before .before .before .before .before .before .before .store-symbol .ensures) (c .before .before .before .before .counted .ensures) (readerView (c .past .result)) (c .past .ensures) (sym (c .before .before .before .is-closing .ensures) ∙ c .before .before .if1 .left) (c .before .before .before .before .before .before .before .before .before .before .before .before .before .before .before .loop .inv .1) in
+    let g = goes-on (now (c .before .before .before .before .before .before .before .before .before .before .before .before .before .before .before .before .before .before .args .text)) (c .before .before .before .before .before .before .before .before .before .before .before .before .before .before .before .loop .syms) _ (c .before .before .before .before .before .before .before .before .before .before .before .before .before .before .before .loop .n) (c .before .before .before .before .before .before .before .before .store-symbol .result) (c .before .before .before .before .before .before .before .before .before .before .before .before .before .before .before .loop .at) (c .before .before .before .before .before .before .before .before .before .before .before .before .before .line-end .result) (c .before .before .before .before .before .before .before .before .before .before .before .before .before .before .before .loop .k) (c .before .before .before .before .counted .result) (readerView (c .before .before .before .before .before .before .before .before .before .before .before .before .before .before .before .loop .r)) (cardView (c .before .before .before .before .before .before .before .before .before .before .before .card-of .result) (lineAt (now (c .before .before .before .before .before .before .before .before .before .before .before .before .before .before .before .before .before .before .args .text)) (c .before .before .before .before .before .before .before .before .before .before .before .before .before .before .before .loop .at) (c .before .before .before .before .before .before .before .before .before .before .before .before .before .line-end .result))) (c .before .before .before .before .before .before .before .before .before .before .before .before .before .before .before .loop .inv .0) (c .before .before .before .before .before .before .before .before .before .before .before .before .before .before .loop-test .taken) (c .before .before .before .before .before .before .before .before .before .before .before .before .before .line-end .ensures .0) (c .before .before .before .before .before .before .before .before .before .before .before .before .before .line-end .ensures .1) (c .before .before .before .before .before .before .before .before .before .before .before .card-of .ensures) (c .before .before .before .before .before .before .before .before .store-symbol .ensures) (c .before .before .before .before .counted .ensures) (readerView (c .past .result)) (c .past .ensures) (sym (c .before .before .before .is-closing .ensures) ∙ c .before .before .if1 .left) (c .before .before .before .before .before .before .before .before .before .before .before .before .before .before .before .loop .inv .1) in
     (g .0, g .1, c .before .before .before .before .before .before .before .before .store-symbol .ensures .long ∙ c .before .before .before .before .before .before .before .before .before .before .before .before .before .before .before .loop .inv .2)
 
 -- src/lib.rt:87:5
@@ -143,7 +143,7 @@ collect-spec =
     Inv-loop
     μ-loop
     loop-holds
-    find-byte-requires
+    line-end-requires
     sub-card-of
     part-card-of-start
     part-card-of-end

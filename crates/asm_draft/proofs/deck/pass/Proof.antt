@@ -35,8 +35,8 @@ returns : tie.Need-returns Inv-loop μ-loop
 returns c = passing-over _ _ _ _ _ _ _ _ (c .before .before .before .loop .inv) (rest-over (c .before .before .before .before .before .before .before .args .part) (symbolsIn (c .before .before .before .before .before .before .before .args .syms .now) (c .before .before .before .before .before .before .before .args .n)) _ _ (sym (c .before .is-over .ensures) ∙ c .if1 .taken))
 
 -- src/deck.rt:99:13
-find-byte-requires : tie.Need-find-byte-requires Inv-loop μ-loop
-find-byte-requires c κs = search needs
+line-end-requires : tie.Need-line-end-requires Inv-loop μ-loop
+line-end-requires c κs = search needs
 
 -- src/deck.rt:100:34
 sub-card-of : tie.Need-sub-card-of Inv-loop μ-loop
@@ -68,7 +68,7 @@ part-put-part-end c = search needs
 
 -- src/deck.rt:101:9
 put-part-requires : tie.Need-put-part-requires Inv-loop μ-loop
-put-part-requires c κs = (c .before .before .before .before .before .before .before .before .before .before .before .before .pre .0, c .before .before .before .before .before .before .before .before .before .before .before .before .pre .1, spot-counted _ _ _ _ _ _ _ _ (c .before .before .before .before .before .before .before .before .loop .inv) _ (c .before .before .before .before .before .before .before .loop-test .taken) (c .before .before .before .before .find-byte .ensures .0) (c .before .before .before .before .find-byte .ensures .1) _ (c .before .before .card-of .ensures) (c .before .before .before .before .before .before .before .before .before .before .before .before .pre .2) .word-le, omega (arith, line-long _ _ _ _ _ _ _ _ (c .before .before .before .before .before .before .before .before .loop .inv) _ (c .before .before .before .before .before .before .before .loop-test .taken) (c .before .before .before .before .find-byte .ensures .0) (c .before .before .before .before .find-byte .ensures .1), c .before .before .before .before .before .before .before .before .before .before .before .before .pre .2), passing-room _ _ _ _ _ _ _ _ (c .before .before .before .before .before .before .before .before .loop .inv) _ (c .before .before .before .before .before .before .before .loop-test .taken) (c .before .before .before .before .find-byte .ensures .0) (c .before .before .before .before .find-byte .ensures .1) _ (c .before .before .card-of .ensures))
+put-part-requires c κs = (c .before .before .before .before .before .before .before .before .before .before .before .before .pre .0, c .before .before .before .before .before .before .before .before .before .before .before .before .pre .1, spot-counted _ _ _ _ _ _ _ _ (c .before .before .before .before .before .before .before .before .loop .inv) _ (c .before .before .before .before .before .before .before .loop-test .taken) (c .before .before .before .before .line-end .ensures .0) (c .before .before .before .before .line-end .ensures .1) _ (c .before .before .card-of .ensures) (c .before .before .before .before .before .before .before .before .before .before .before .before .pre .2) .word-le, omega (arith, line-long _ _ _ _ _ _ _ _ (c .before .before .before .before .before .before .before .before .loop .inv) _ (c .before .before .before .before .before .before .before .loop-test .taken) (c .before .before .before .before .line-end .ensures .0) (c .before .before .before .before .line-end .ensures .1), c .before .before .before .before .before .before .before .before .before .before .before .before .pre .2), passing-room _ _ _ _ _ _ _ _ (c .before .before .before .before .before .before .before .before .loop .inv) _ (c .before .before .before .before .before .before .before .loop-test .taken) (c .before .before .before .before .line-end .ensures .0) (c .before .before .before .before .line-end .ensures .1) _ (c .before .before .card-of .ensures))
 
 -- src/deck.rt:102:12
 is-closing-requires : tie.Need-is-closing-requires Inv-loop μ-loop
@@ -80,7 +80,7 @@ same-length-2 c = c .before .before .before .before .put-part .ensures .same ∙
 
 -- src/deck.rt:103:13
 returns-2 : tie.Need-returns-2 Inv-loop μ-loop
-returns-2 c = passing-end _ _ _ _ _ _ _ _ (c .before .before .before .before .before .before .before .before .before .before .before .before .before .loop .inv) _ (c .before .before .before .before .before .before .before .before .before .before .before .before .loop-test .taken) (c .before .before .before .before .before .before .before .before .before .find-byte .ensures .0) (c .before .before .before .before .before .before .before .before .before .find-byte .ensures .1) _ (c .before .before .before .before .before .before .before .card-of .ensures) _ _ (c .before .before .before .before .put-part .ensures) (sym (c .before .is-closing .ensures) ∙ c .if2 .taken)
+returns-2 c = passing-end _ _ _ _ _ _ _ _ (c .before .before .before .before .before .before .before .before .before .before .before .before .before .loop .inv) _ (c .before .before .before .before .before .before .before .before .before .before .before .before .loop-test .taken) (c .before .before .before .before .before .before .before .before .before .line-end .ensures .0) (c .before .before .before .before .before .before .before .before .before .line-end .ensures .1) _ (c .before .before .before .before .before .before .before .card-of .ensures) _ _ (c .before .before .before .before .put-part .ensures) (sym (c .before .is-closing .ensures) ∙ c .if2 .taken)
 
 -- src/deck.rt:105:21
 sub-past : tie.Need-sub-past Inv-loop μ-loop
@@ -96,11 +96,11 @@ part-past-end c = search needs
 
 -- src/deck.rt:105:9
 past-requires : tie.Need-past-requires Inv-loop μ-loop
-past-requires c κs = (spot-counted _ _ _ _ _ _ _ _ (c .before .before .before .before .before .before .before .before .before .before .before .before .before .before .loop .inv) _ (c .before .before .before .before .before .before .before .before .before .before .before .before .before .loop-test .taken) (c .before .before .before .before .before .before .before .before .before .before .find-byte .ensures .0) (c .before .before .before .before .before .before .before .before .before .before .find-byte .ensures .1) _ (c .before .before .before .before .before .before .before .before .card-of .ensures) (c .before .before .before .before .before .before .before .before .before .before .before .before .before .before .before .before .before .before .pre .2), omega (arith, line-long _ _ _ _ _ _ _ _ (c .before .before .before .before .before .before .before .before .before .before .before .before .before .before .loop .inv) _ (c .before .before .before .before .before .before .before .before .before .before .before .before .before .loop-test .taken) (c .before .before .before .before .before .before .before .before .before .before .find-byte .ensures .0) (c .before .before .before .before .before .before .before .before .before .before .find-byte .ensures .1), c .before .before .before .before .before .before .before .before .before .before .before .before .before .before .before .before .before .before .pre .2))
+past-requires c κs = (spot-counted _ _ _ _ _ _ _ _ (c .before .before .before .before .before .before .before .before .before .before .before .before .before .before .loop .inv) _ (c .before .before .before .before .before .before .before .before .before .before .before .before .before .loop-test .taken) (c .before .before .before .before .before .before .before .before .before .before .line-end .ensures .0) (c .before .before .before .before .before .before .before .before .before .before .line-end .ensures .1) _ (c .before .before .before .before .before .before .before .before .card-of .ensures) (c .before .before .before .before .before .before .before .before .before .before .before .before .before .before .before .before .before .before .pre .2), omega (arith, line-long _ _ _ _ _ _ _ _ (c .before .before .before .before .before .before .before .before .before .before .before .before .before .before .loop .inv) _ (c .before .before .before .before .before .before .before .before .before .before .before .before .before .loop-test .taken) (c .before .before .before .before .before .before .before .before .before .before .line-end .ensures .0) (c .before .before .before .before .before .before .before .before .before .before .line-end .ensures .1), c .before .before .before .before .before .before .before .before .before .before .before .before .before .before .before .before .before .before .pre .2))
 
 -- src/deck.rt:106:16
 add-from : tie.Need-add-from Inv-loop μ-loop
-add-from c = omega (arith, c .before .before .before .before .before .before .before .before .before .before .before .find-byte .ensures .1, c .before .before .before .before .before .before .before .before .before .before .before .before .before .before .before .before .before .before .before .pre .2)
+add-from c = omega (arith, c .before .before .before .before .before .before .before .before .before .before .before .line-end .ensures .1, c .before .before .before .before .before .before .before .before .before .before .before .before .before .before .before .before .before .before .before .pre .2)
 
 -- src/deck.rt:95:5
 loop-less : tie.Need-loop-less Inv-loop μ-loop
@@ -108,7 +108,7 @@ loop-less c = search needs
 
 -- src/deck.rt:95:5
 loop-again : tie.Need-loop-again Inv-loop μ-loop
-loop-again c = passing-more _ _ _ _ _ _ _ _ (c .before .before .before .before .before .before .before .before .before .before .before .before .before .before .before .loop .inv) _ (c .before .before .before .before .before .before .before .before .before .before .before .before .before .before .loop-test .taken) (c .before .before .before .before .before .before .before .before .before .before .before .find-byte .ensures .0) (c .before .before .before .before .before .before .before .before .before .before .before .find-byte .ensures .1) _ (c .before .before .before .before .before .before .before .before .before .card-of .ensures) _ _ (c .before .before .before .before .before .before .put-part .ensures) (sym (c .before .before .before .is-closing .ensures) ∙ c .before .before .if2 .left) _ (c .past .ensures)
+loop-again c = passing-more _ _ _ _ _ _ _ _ (c .before .before .before .before .before .before .before .before .before .before .before .before .before .before .before .loop .inv) _ (c .before .before .before .before .before .before .before .before .before .before .before .before .before .before .loop-test .taken) (c .before .before .before .before .before .before .before .before .before .before .before .line-end .ensures .0) (c .before .before .before .before .before .before .before .before .before .before .before .line-end .ensures .1) _ (c .before .before .before .before .before .before .before .before .before .card-of .ensures) _ _ (c .before .before .before .before .before .before .put-part .ensures) (sym (c .before .before .before .is-closing .ensures) ∙ c .before .before .if2 .left) _ (c .past .ensures)
 
 -- src/deck.rt:74:1
 same-length-3 : tie.Need-same-length-3 Inv-loop μ-loop
@@ -128,7 +128,7 @@ pass-spec =
     is-over-requires
     same-length
     returns
-    find-byte-requires
+    line-end-requires
     sub-card-of
     part-card-of-start
     part-card-of-end

@@ -17,7 +17,7 @@ use Rattle.assembler.proofs.judge.judge.Lts as lts
 use Rattle.asm_cards.proofs.card_of.Reads as card-of-reads
 use Rattle.asm_cards.proofs.is_closing.Reads as is-closing-reads
 use Rattle.asm_cards.proofs.past.Reads as past-reads
-use Rattle.asm_text.proofs.find_byte.Reads as find-byte-reads
+use Rattle.asm_reader.proofs.line_end.Reads as line-end-reads
 use Rattle.assembler.proofs.judge.line_fault.Reads as line-fault-reads
 
 abbrev Inv-loop : tie.InvT-loop
@@ -32,20 +32,20 @@ loop-holds : tie.Need-loop-holds Inv-loop μ-loop
 loop-holds c = judging-start _ _ _ (c .before .before .before .before .before .pre .1 .places)
 
 -- src/judge.rt:71:13
-find-byte-requires : tie.Need-find-byte-requires Inv-loop μ-loop
-find-byte-requires c κs = omega (arith, c .loop-test .taken)
+line-end-requires : tie.Need-line-end-requires Inv-loop μ-loop
+line-end-requires c κs = omega (arith, c .loop-test .taken)
 
 -- src/judge.rt:72:34
 sub-card-of : tie.Need-sub-card-of Inv-loop μ-loop
-sub-card-of c = omega (arith, c .find-byte .ensures .0)
+sub-card-of c = omega (arith, c .line-end .ensures .0)
 
 -- src/judge.rt:72:34
 part-card-of-start : tie.Need-part-card-of-start Inv-loop μ-loop
-part-card-of-start c = omega (arith, c .find-byte .ensures .0)
+part-card-of-start c = omega (arith, c .line-end .ensures .0)
 
 -- src/judge.rt:72:34
 part-card-of-end : tie.Need-part-card-of-end Inv-loop μ-loop
-part-card-of-end c = omega (arith, c .find-byte .ensures .1)
+part-card-of-end c = omega (arith, c .line-end .ensures .1)
 
 -- src/judge.rt:72:13
 card-of-requires : tie.Need-card-of-requires Inv-loop μ-loop
@@ -53,24 +53,24 @@ card-of-requires c κs = c .before .before .before .before .before .before .befo
 
 -- src/judge.rt:76:13
 sub-line-fault : tie.Need-sub-line-fault Inv-loop μ-loop
-sub-line-fault c = omega (arith, c .before .before .find-byte .ensures .0)
+sub-line-fault c = omega (arith, c .before .before .line-end .ensures .0)
 
 -- src/judge.rt:76:13
 part-line-fault-start : tie.Need-part-line-fault-start Inv-loop μ-loop
-part-line-fault-start c = omega (arith, c .before .before .find-byte .ensures .0)
+part-line-fault-start c = omega (arith, c .before .before .line-end .ensures .0)
 
 -- src/judge.rt:76:13
 part-line-fault-end : tie.Need-part-line-fault-end Inv-loop μ-loop
-part-line-fault-end c = omega (arith, c .before .before .find-byte .ensures .1)
+part-line-fault-end c = omega (arith, c .before .before .line-end .ensures .1)
 
 -- src/judge.rt:73:13
 line-fault-requires : tie.Need-line-fault-requires Inv-loop μ-loop
 line-fault-requires c κs =
-    (c .before .before .before .before .before .before .before .before .before .before .before .pre .0, c .before .before .before .before .before .before .before .before .before .before .before .pre .1 .symbolic, c .before .before .before .before .before .before .before .before .before .before .before .pre .1 .known, place-below _ _ _ _ _ _ (c .before .before .before .before .before .loop .inv) (c .before .before .before .before .loop-test .taken) (c .before .before .before .find-byte .ensures .0) _ (c .before .card-of .ensures))
+    (c .before .before .before .before .before .before .before .before .before .before .before .pre .0, c .before .before .before .before .before .before .before .before .before .before .before .pre .1 .symbolic, c .before .before .before .before .before .before .before .before .before .before .before .pre .1 .known, place-below _ _ _ _ _ _ (c .before .before .before .before .before .loop .inv) (c .before .before .before .before .loop-test .taken) (c .before .before .before .line-end .ensures .0) _ (c .before .card-of .ensures))
 
 -- src/judge.rt:85:13
 returns : tie.Need-returns Inv-loop μ-loop
-returns c a = broken _ _ _ _ _ _ (c .before .before .before .before .before .before .before .loop .inv) (c .before .before .before .before .before .before .loop-test .taken) (c .before .before .before .before .before .find-byte .ensures .0) _ (c .before .before .before .card-of .ensures) _ (c .before .line-fault .ensures _) (c .if1 .taken) a
+returns c a = broken _ _ _ _ _ _ (c .before .before .before .before .before .before .before .loop .inv) (c .before .before .before .before .before .before .loop-test .taken) (c .before .before .before .before .before .line-end .ensures .0) _ (c .before .before .before .card-of .ensures) _ (c .before .line-fault .ensures _) (c .if1 .taken) a
 
 -- src/judge.rt:90:12
 is-closing-requires : tie.Need-is-closing-requires Inv-loop μ-loop
@@ -78,42 +78,42 @@ is-closing-requires c κs = search needs
 
 -- src/judge.rt:91:13
 returns-2 : tie.Need-returns-2 Inv-loop μ-loop
-returns-2 c a = closes _ _ _ _ _ _ (c .before .before .before .before .before .before .before .before .before .loop .inv) (c .before .before .before .before .before .before .before .before .loop-test .taken) (c .before .before .before .before .before .before .before .find-byte .ensures .0) _ (c .before .before .before .before .before .card-of .ensures) _ (c .before .before .before .line-fault .ensures _) (c .before .before .if1 .left) (sym (c .before .is-closing .ensures) ∙ c .if2 .taken) a
+returns-2 c a = closes _ _ _ _ _ _ (c .before .before .before .before .before .before .before .before .before .loop .inv) (c .before .before .before .before .before .before .before .before .loop-test .taken) (c .before .before .before .before .before .before .before .line-end .ensures .0) _ (c .before .before .before .before .before .card-of .ensures) _ (c .before .before .before .line-fault .ensures _) (c .before .before .if1 .left) (sym (c .before .is-closing .ensures) ∙ c .if2 .taken) a
 
 -- src/judge.rt:93:21
 sub-past : tie.Need-sub-past Inv-loop μ-loop
-sub-past c = omega (arith, c .before .before .before .before .before .before .before .find-byte .ensures .0)
+sub-past c = omega (arith, c .before .before .before .before .before .before .before .line-end .ensures .0)
 
 -- src/judge.rt:93:21
 part-past-start : tie.Need-part-past-start Inv-loop μ-loop
-part-past-start c = omega (arith, c .before .before .before .before .before .before .before .find-byte .ensures .0)
+part-past-start c = omega (arith, c .before .before .before .before .before .before .before .line-end .ensures .0)
 
 -- src/judge.rt:93:21
 part-past-end : tie.Need-part-past-end Inv-loop μ-loop
-part-past-end c = omega (arith, c .before .before .before .before .before .before .before .find-byte .ensures .1)
+part-past-end c = omega (arith, c .before .before .before .before .before .before .before .line-end .ensures .1)
 
 -- src/judge.rt:93:9
 past-requires : tie.Need-past-requires Inv-loop μ-loop
 past-requires c κs =
     let text = c .before .before .before .before .before .before .before .before .before .before .before .before .before .before .before .before .args .text .now in
     let i = c .before .before .before .before .before .before .before .before .before .before .loop .from in
-    let e = c .before .before .before .before .before .before .before .before .find-byte .result in
-    (counted-more i 32768 _ (omega (arith, c .before .before .before .before .before .before .before .before .before .loop-test .taken, c .before .before .before .before .before .before .before .before .before .before .before .before .before .before .before .before .pre .1 .short)) (counted-here _ _ _ _ _ _ (c .before .before .before .before .before .before .before .before .before .before .loop .inv) (c .before .before .before .before .before .before .before .before .before .loop-test .taken) (c .before .before .before .before .before .before .before .before .find-byte .ensures .0) _ (c .before .before .before .before .before .before .card-of .ensures)), omega (arith, length-take (e - i) (drop i text), length-drop i text, c .before .before .before .before .before .before .before .before .before .before .before .before .before .before .before .before .pre .1 .short))
+    let e = c .before .before .before .before .before .before .before .before .line-end .result in
+    (counted-more i 32768 _ (omega (arith, c .before .before .before .before .before .before .before .before .before .loop-test .taken, c .before .before .before .before .before .before .before .before .before .before .before .before .before .before .before .before .pre .1 .short)) (counted-here _ _ _ _ _ _ (c .before .before .before .before .before .before .before .before .before .before .loop .inv) (c .before .before .before .before .before .before .before .before .before .loop-test .taken) (c .before .before .before .before .before .before .before .before .line-end .ensures .0) _ (c .before .before .before .before .before .before .card-of .ensures)), omega (arith, length-take (e - i) (drop i text), length-drop i text, c .before .before .before .before .before .before .before .before .before .before .before .before .before .before .before .before .pre .1 .short))
 
 -- src/judge.rt:94:16
 add-from : tie.Need-add-from Inv-loop μ-loop
-add-from c = omega (arith, c .before .before .before .before .before .before .before .before .before .find-byte .ensures .1, c .before .before .before .before .before .before .before .before .before .before .before .before .before .before .before .before .before .pre .1 .short)
+add-from c = omega (arith, c .before .before .before .before .before .before .before .before .before .line-end .ensures .1, c .before .before .before .before .before .before .before .before .before .before .before .before .before .before .before .before .before .pre .1 .short)
 
 -- src/judge.rt:70:5
 loop-less : tie.Need-loop-less Inv-loop μ-loop
-loop-less c = omega (arith, c .before .before .before .before .before .before .before .before .before .find-byte .ensures .0, c .before .before .before .before .before .before .before .before .before .find-byte .ensures .1)
+loop-less c = omega (arith, c .before .before .before .before .before .before .before .before .before .line-end .ensures .0, c .before .before .before .before .before .before .before .before .before .line-end .ensures .1)
 
 -- src/judge.rt:70:5
 loop-again : tie.Need-loop-again Inv-loop μ-loop
 loop-again c =
     let text = c .before .before .before .before .before .before .before .before .before .before .before .before .before .before .before .before .before .args .text .now in
     let d = deckFrom (cardsOf text) (symbolsIn (c .before .before .before .before .before .before .before .before .before .before .before .before .before .before .before .before .before .args .syms .now) (c .before .before .before .before .before .before .before .before .before .before .before .before .before .before .before .before .before .args .n)) (c .before .before .before .before .before .before .before .before .before .before .before .before .before .before .before .before .before .args .table .now) in
-    subst (λ (x : Reader). Judging text d (c .before .before .before .before .before .before .before .before .before .before .before .before .before .before .before .before .before .args .size) x (c .before .before .before .before .before .before .before .before .before .find-byte .result + 1)) (sym (c .past .ensures)) (step _ _ _ _ _ _ (c .before .before .before .before .before .before .before .before .before .before .before .loop .inv) (c .before .before .before .before .before .before .before .before .before .before .loop-test .taken) (c .before .before .before .before .before .before .before .before .before .find-byte .ensures .0) _ (c .before .before .before .before .before .before .before .card-of .ensures) _ (c .before .before .before .before .before .line-fault .ensures _) (c .before .before .before .before .if1 .left) (sym (c .before .before .before .is-closing .ensures) ∙ c .before .before .if2 .left) (c .before .before .before .before .before .before .before .before .before .find-byte .ensures .1))
+    subst (λ (x : Reader). Judging text d (c .before .before .before .before .before .before .before .before .before .before .before .before .before .before .before .before .before .args .size) x (c .before .before .before .before .before .before .before .before .before .line-end .result + 1)) (sym (c .past .ensures)) (step _ _ _ _ _ _ (c .before .before .before .before .before .before .before .before .before .before .before .loop .inv) (c .before .before .before .before .before .before .before .before .before .before .loop-test .taken) (c .before .before .before .before .before .before .before .before .before .line-end .ensures .0) _ (c .before .before .before .before .before .before .before .card-of .ensures) _ (c .before .before .before .before .before .line-fault .ensures _) (c .before .before .before .before .if1 .left) (sym (c .before .before .before .is-closing .ensures) ∙ c .before .before .if2 .left) (c .before .before .before .before .before .before .before .before .before .line-end .ensures .1))
 
 -- src/judge.rt:49:1
 returns-3 : tie.Need-returns-3 Inv-loop μ-loop
@@ -126,7 +126,7 @@ judge-spec =
     Inv-loop
     μ-loop
     loop-holds
-    find-byte-requires
+    line-end-requires
     sub-card-of
     part-card-of-start
     part-card-of-end
