@@ -63,34 +63,35 @@ fn time(r: &Ready) -> [Times; 2] {
     times.map(|t| t.over(STEPS as f64))
 }
 
-/// Times the decks, and their geometric mean.
+/// The geometric mean of some decks' medians, proved and plain.
+fn mean<'a>(measures: &mut Measures, name: &str, decks: impl Iterator<Item = &'a Measure>) {
+    let times: Vec<(f64, f64)> = decks.map(|m| (m.proved, m.plain.expect("a plain time"))).collect();
+    let mean = |logs: f64| (logs / times.len() as f64).exp();
+    let proved = mean(times.iter().map(|t| t.0.ln()).sum());
+    let plain = mean(times.iter().map(|t| t.1.ln()).sum());
+    println!("{name:<32} {proved:16.2} | {plain:16.2} | {:12.2}", plain / proved);
+    measures.add(Measure::new("steps", name, proved).plain(plain).goal(MEAN_GOAL));
+}
+
+/// Times the decks, and their geometric means.
 fn decks(measures: &mut Measures, paths: &[String]) {
     println!(
         "steps: nanoseconds a step, least / median of {ROUNDS} rounds of {STEPS} steps: proved | plain | times as fast"
     );
-    let mut logs = [0.0; 2];
+    let mut all = vec![];
     for path in paths {
         let r = ready(path);
         compare(&r);
         let [proved, plain] = time(&r);
+        let both = |t: &Times| format!("{:7.2} /{:7.2}", t.least(), t.median());
         let faster = [plain.least() / proved.least(), plain.median() / proved.median()];
-        println!(
-            "{:<20} {:7.2} /{:7.2} | {:7.2} /{:7.2} | {:5.2} /{:5.2}",
-            r.name,
-            proved.least(),
-            proved.median(),
-            plain.least(),
-            plain.median(),
-            faster[0],
-            faster[1]
-        );
-        logs[0] += proved.median().ln();
-        logs[1] += plain.median().ln();
-        measures.add(Measure::new("steps", r.name, proved.median()).plain(plain.median()).goal(DECK_GOAL));
+        println!("{:<32} {} | {} | {:5.2} /{:5.2}", r.name, both(&proved), both(&plain), faster[0], faster[1]);
+        let measure = Measure::new("steps", r.name, proved.median()).plain(plain.median()).goal(DECK_GOAL);
+        measures.add(measure.clone());
+        all.push(measure);
     }
-    let [proved, plain] = logs.map(|l| (l / paths.len() as f64).exp());
-    println!("{:<20} {:16.2} | {:16.2} | {:12.2}", "geometric mean", proved, plain, plain / proved);
-    measures.add(Measure::new("steps", "geometric mean", proved).plain(plain).goal(MEAN_GOAL));
+    mean(measures, "geometric mean", all.iter());
+    mean(measures, "geometric mean without blocks", all.iter().filter(|m| m.name != "blocks"));
 }
 
 /// A table of 1,024 entries that loops.
@@ -122,7 +123,7 @@ fn one_step(measures: &mut Measures) {
     );
     println!("\na table of {} entries, microseconds a call, least / median", table[0]);
     for (name, t) in [("check_state", &check), ("run, budget 1", &run), ("plain run, budget 1", &plain)] {
-        println!("{name:<20} {:7.2} /{:7.2}", t.least() / 1e3, t.median() / 1e3);
+        println!("{name:<32} {:7.2} /{:7.2}", t.least() / 1e3, t.median() / 1e3);
     }
     measures.add(Measure::new("steps", "a call of run, budget 1, 1,024 entries", run.median()).plain(plain.median()));
 }

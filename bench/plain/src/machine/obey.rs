@@ -7,6 +7,7 @@ use crate::{kind, CFP_B};
 
 impl Machine<'_> {
     /// The operation at the place; registers are put back by the caller where it is stopped.
+    #[inline(always)]
     pub fn obey(&mut self) -> Result<Next, Trap> {
         let p = self.s.pc as usize;
         let e = self.t.entry(p);
