@@ -99,3 +99,20 @@ impl Measures {
         }
     }
 }
+
+#[cfg(test)]
+mod tests {
+    use super::{Goal, Measure};
+
+    #[test]
+    fn lines_are_read_as_written() {
+        let bare = Measure::new("checks", "check_table, one switch", 17_400.125);
+        let full = bare.clone().plain(81_700.5).copy(738.25);
+        for goal in [Goal::None, Goal::Time(20_000.0), Goal::OfPlain(0.625), Goal::OfCopy(2.0)] {
+            for measure in [bare.clone().goal(goal), full.clone().goal(goal)] {
+                assert_eq!(Measure::parse(&measure.to_string()), Some(measure));
+            }
+        }
+        assert_eq!(Measure::parse("checks\tcheck_table"), None);
+    }
+}

@@ -63,12 +63,14 @@ struct Axis {
 impl Axis {
     fn new(all: &[Summary]) -> Axis {
         let ratios: Vec<Bar> = all.iter().flat_map(bars).collect();
-        let least = ratios.iter().map(|b| b.ratio.least).fold(1.0, f64::min);
+        let least = ratios.iter().map(|b| b.ratio.least).filter(|r| *r > 0.0).fold(1.0, f64::min);
         let most = ratios.iter().map(|b| b.ratio.most).fold(1.0, f64::max);
         Axis { low: least.log10().floor() as i32, high: most.log10().ceil() as i32 }
     }
 
+    /// Where a ratio lies; a difference of times that is not above 0 lies at the axis's end.
     fn x(&self, ratio: f64) -> f64 {
+        let ratio = ratio.max(10f64.powi(self.low));
         let share = (ratio.log10() - self.low as f64) / (self.high - self.low) as f64;
         LEFT + share * (RIGHT - LEFT)
     }

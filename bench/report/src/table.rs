@@ -8,7 +8,7 @@ const COLUMNS: [&str; 8] =
 
 /// A number with three digits that count.
 pub fn figure(x: f64) -> String {
-    let places = (2 - x.abs().log10().floor() as i32).clamp(0, 4) as usize;
+    let places = (2.0 - x.abs().max(1e-9).log10().floor()).clamp(0.0, 4.0) as usize;
     format!("{x:.places$}")
 }
 
@@ -87,4 +87,16 @@ pub fn markdown(all: &[Summary]) -> String {
         }
     }
     text.replace("|  |", "| |").replace("|  |", "| |")
+}
+
+#[cfg(test)]
+mod tests {
+    use super::{figure, time};
+
+    #[test]
+    fn figures() {
+        let shown = [0.0, 0.02216, 0.999, 5.0, 80.44, 231.4, 4620.0].map(figure);
+        assert_eq!(shown, ["0.0000", "0.0222", "0.999", "5.00", "80.4", "231", "4620"]);
+        assert_eq!([2.5, 18_040.0, 5_670_000.0, -48.0].map(time), ["2.50 ns", "18.0 µs", "5.67 ms", "-48.0 ns"]);
+    }
 }
