@@ -1,126 +1,100 @@
 //! Times the proved assembler beside a plain one, after both gave the same answer, and a cold start beside a restore.
 
+mod texts;
+
 use std::hint::black_box;
-use std::time::Instant;
 use torzimlak::{sys, Machine, Table};
+use torzimlak_bench::{rounds, state, used, Goal, Measure, Measures, Times};
 use torzimlak_plain::assemble::assemble;
+use torzimlak_plain::{machine, snapshot};
 
-const BYTES: usize = 32_768;
 const ROOM: usize = 20_000;
-const ROUNDS: usize = 60;
+const ROUNDS: usize = 61;
 
-/// 1,024 operations, 512 labels and comments to about 32 KB.
-fn full() -> Vec<u8> {
-    let mut text = String::from(" SEC\nSYSXX EXP E,0\n SEC\n");
-    for i in 0..100 {
-        text += &format!("EQU{i:02} EQU {i}\n");
+/// A full deck, and the worst texts.
+const DECK_GOAL: Goal = Goal::Time(2e6);
+const WORST_GOAL: Goal = Goal::Time(20e6);
+
+/// The plain answer, as the library gives it.
+fn due(text: &[u8]) -> (u32, u32, Vec<u32>) {
+    match assemble(text, ROOM) {
+        Ok(t) => (0, t.len() as u32, t),
+        Err((n, l)) => (n, l as u32, vec![]),
     }
-    text += " SEC\n SEC\n";
-    for i in 0..100 {
-        text += &format!("WRD{i:02} DAC {i}\n");
-    }
-    text += " SEC\n";
-    for i in 0..1020 {
-        let label = if i < 310 { format!("LA{i:03}") } else { String::new() };
-        let (word, equal, to) = (i % 100, i * 7 % 100, i * 13 % 310);
-        text += &match i % 3 {
-            0 => format!("{label} MOV WRD{word:02},WA ABCDEFG\n"),
-            1 => format!("{label} ADD =EQU{equal:02},WRD{word:02}\n"),
-            _ => format!("{label} BNE WA,WRD{word:02},LA{to:03}\n"),
-        };
-    }
-    text += " BRN LA000\n SEC\n ERB 1,FULL\n SEC\n ERB 2,BAD\n BRN LA000\n";
-    while text.len() < 32_700 {
-        text += "* A COMMENT OF FORTY BYTES, AS MANY HAVE\n";
-    }
-    (text + " END\n").into_bytes()
 }
 
-/// A unit repeated to the byte limit.
-fn repeated(unit: &[u8]) -> Vec<u8> {
-    unit.iter().copied().cycle().take(BYTES / unit.len() * unit.len()).collect()
+/// Prints the line of a measure, in milliseconds.
+fn show(name: &str, what: &str, proved: &Times, plain: &Times) {
+    let both = |t: &Times| format!("{:7.4} /{:7.4}", t.least() / 1e6, t.median() / 1e6);
+    println!("{name:<40} {what:<28} {} | {}", both(proved), both(plain));
 }
 
-/// As many different labels as fit, in section 1.
-fn labels() -> Vec<u8> {
-    let mut text = b" SEC\n SEC\n".to_vec();
-    for i in 0.. {
-        let line = format!("L{i:04} EQU 1\n");
-        if text.len() + line.len() > BYTES {
-            return text;
-        }
-        text.extend(line.bytes());
-    }
-    text
-}
-
-/// Milliseconds of a call, least and median.
-fn time(mut f: impl FnMut()) -> (f64, f64) {
-    let mut all: Vec<f64> = (0..ROUNDS)
-        .map(|_| {
-            let began = Instant::now();
-            f();
-            began.elapsed().as_secs_f64() * 1e3
-        })
-        .collect();
-    all.sort_by(f64::total_cmp);
-    (all[0], all[all.len() / 2])
-}
-
-fn measure(name: &str, text: &[u8]) {
+/// Times a text, after the plain assembler gave the same answer and the same table.
+fn text(measures: &mut Measures, name: &str, text: &[u8], goal: Goal) {
     let mut room = vec![0; ROOM];
-    let got = sys::assemble(text, &mut room);
-    let due = match assemble(text, ROOM) {
-        Ok(t) => (0, t.len() as u32),
-        Err((n, l)) => (n, l as u32),
-    };
-    assert_eq!(got, due, "{name}");
-    let proved = time(|| {
-        black_box(sys::assemble(text, &mut room));
-    });
-    let plain = time(|| {
-        black_box(assemble(text, ROOM).is_ok());
-    });
-    println!(
-        "{name:<34} {:6} bytes  answer {:2} {:5}  proved {:6.3} {:6.3}  plain {:6.3} {:6.3}",
-        text.len(),
-        got.0,
-        got.1,
-        proved.0,
-        proved.1,
-        plain.0,
-        plain.1
-    );
+    let (number, value) = sys::assemble(text, &mut room);
+    let due = due(text);
+    assert_eq!((number, value), (due.0, due.1), "{name}");
+    assert!(due.2 == room[..due.2.len()], "{name}");
+    let mut proved = || used(sys::assemble(black_box(text), &mut room));
+    let mut plain = || used(assemble(black_box(text), ROOM));
+    let [proved, plain] = rounds(ROUNDS, [&mut proved, &mut plain]);
+    show(name, &format!("{} bytes, answer {number} {value}", text.len()), &proved, &plain);
+    measures.add(Measure::new("assemble", name, proved.median()).plain(plain.median()).goal(goal));
 }
 
-/// Cards to a waiting machine, and the same machine from its file.
-fn cold_start() {
-    let cards = std::fs::read(concat!(env!("CARGO_MANIFEST_DIR"), "/../../examples/token.min")).expect("the example");
-    let warm = |table: &Table| {
-        let mut machine = Machine::start(table, 256, &[1], 0).expect("a start");
-        machine.run(1000).expect("a run");
-        machine.freeze(1).expect("a file")
-    };
-    let table = Table::assemble(&cards).expect("a table");
-    let file = warm(&table);
-    let cold = time(|| {
-        black_box(warm(&Table::assemble(&cards).expect("a table")));
-    });
-    let wake = time(|| {
-        black_box(file.wake(&table, 1, &[7]).expect("a machine"));
-    });
-    println!("cold start of examples/token.min (assemble, start, warm, freeze) {:6.3} {:6.3}, restore {:7.4} {:7.4}", cold.0, cold.1, wake.0, wake.1);
+/// The file of a table that was started and ran until it waits.
+fn warm(table: &Table) -> torzimlak::Snapshot {
+    let mut machine = Machine::start(table, 256, &[1], 0).expect("a start");
+    machine.run(1000).expect("a run");
+    machine.freeze(1).expect("a file")
+}
+
+/// The same of the plain machine.
+fn plain_warm(table: &[u32]) -> Vec<u8> {
+    let mut memory = vec![0; 256];
+    let mut state = machine::start(table, &mut memory, &[1], 0).expect("a start");
+    machine::run(table, &mut memory, &mut state, 1000);
+    let mut file = vec![0; 4 * (256 + 256 + 32) + 64];
+    let length = snapshot::write(table, &memory, &state, 1, &mut file).expect("a file");
+    file.truncate(length);
+    file
+}
+
+/// Cards to a waiting machine's file, and the machine from that file.
+fn cold_start(measures: &mut Measures) {
+    let path = concat!(env!("CARGO_MANIFEST_DIR"), "/../../examples/token.min");
+    let cards = std::fs::read(path).expect("the example");
+    let (table, own) = (Table::assemble(&cards).expect("a table"), assemble(&cards, ROOM).expect("a table"));
+    let (file, plain_file) = (warm(&table), plain_warm(&own));
+    assert_eq!(file.bytes(), plain_file);
+    let mut memory = vec![0; 256];
+    let woken = file.wake(&table, 1, &[7]).expect("a machine");
+    let own_state = snapshot::restore(&own, &plain_file, 1, &[7], &mut memory);
+    assert!(woken.memory() == memory && own_state == Ok(state::plain(woken.state().words())));
+    let [cold, plain_cold, wake, plain_wake] = rounds(
+        101,
+        [
+            &mut || used(warm(&Table::assemble(black_box(&cards)).expect("a table"))),
+            &mut || used(plain_warm(&assemble(black_box(&cards), ROOM).expect("a table"))),
+            &mut || used(file.wake(&table, 1, black_box(&[7])).expect("a machine")),
+            &mut || used(snapshot::restore(&own, &plain_file, 1, black_box(&[7]), &mut memory)),
+        ],
+    );
+    for (name, proved, plain) in
+        [("examples/token.min to its file", cold, plain_cold), ("examples/token.min woken", wake, plain_wake)]
+    {
+        show(name, "", &proved, &plain);
+        measures.add(Measure::new("assemble", name, proved.median()).plain(plain.median()));
+    }
 }
 
 fn main() {
-    println!("milliseconds: least, median of {ROUNDS}");
-    let deck = full();
-    measure("1,024 operations, 512 labels", &deck);
-    measure("empty lines", &repeated(b"\n"));
-    measure("one-byte cards", &repeated(b"X\n"));
-    measure("labels alone", &repeated(b"LABEL\n"));
-    measure("EQU cards, all labels differ", &labels());
-    measure("short operations", &[b" SEC\n SEC\n SEC\n SEC\n SEC\n".as_slice(), &repeated(b" NGI\n")[..BYTES - 30]].concat());
-    measure("comment lines", &repeated(b"* A COMMENT OF FORTY BYTES, AS MANY HAVE\n"));
-    cold_start();
+    println!("assemble: milliseconds, least / median of {ROUNDS} calls: proved | plain");
+    let measures = &mut Measures::open();
+    text(measures, "1,024 operations, 512 labels", &texts::full(), DECK_GOAL);
+    for (name, bytes) in texts::worst() {
+        text(measures, name, &bytes, WORST_GOAL);
+    }
+    cold_start(measures);
 }

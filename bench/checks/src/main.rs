@@ -1,48 +1,20 @@
-//! Times `torzimlak_check_table` and `torzimlak_check_state` on full tables, after each answer has been compared with the one due.
-
-mod tables;
+//! Times the table check and the state check on full tables beside plain Rust ones and a copy of the same bytes, after each answer has been compared
+//! with the one due.
 
 use std::hint::black_box;
-use std::time::Instant;
-use tables::{full, switch, Full};
-
-// The proved functions: a slice is a pointer and a length.
-extern "C" {
-    fn torzimlak_check_table(table: *const u32, words: usize) -> u32;
-    fn torzimlak_check_state(table: *const u32, words: usize, len: usize, state: *const u32, state_words: usize)
-        -> u32;
-}
-
-fn check_table(table: &[u32]) -> u32 {
-    unsafe { torzimlak_check_table(table.as_ptr(), table.len()) }
-}
-
-fn check_state(table: &[u32], len: usize, state: &[u32]) -> u32 {
-    unsafe { torzimlak_check_state(table.as_ptr(), table.len(), len, state.as_ptr(), state.len()) }
-}
-
-/// The words of a state: where each stands, and how many there are.
-const FLAG: usize = 7;
-const PLACE: usize = 8;
-const WAITING: usize = 9;
-const COUNT: usize = 10;
-const LINKS: usize = 11;
-const WORDS: usize = LINKS + 256;
+use torzimlak::sys::{check_state, check_table};
+use torzimlak_bench::state::{plain, state, with, COUNT, FLAG, LINKS, PLACE, WAITING, WORDS};
+use torzimlak_bench::tables::{full, switch, Full, Switch};
+use torzimlak_bench::{rounds, used, Goal, Measure, Measures, Times};
+use torzimlak_plain::{check, machine};
 
 /// Words of memory.
 const MEMORY: usize = 8192;
 
-const ROUNDS: usize = 50;
-const CALLS: usize = 20;
+const ROUNDS: usize = 201;
 
-/// The state at a place with these links.
-fn state(place: u32, links: &[u32]) -> Vec<u32> {
-    let mut words = vec![0; WORDS];
-    words[PLACE] = place;
-    words[COUNT] = links.len() as u32;
-    words[LINKS..LINKS + links.len()].copy_from_slice(links);
-    words
-}
+const TABLE_GOAL: Goal = Goal::Time(20_000.0);
+const STATE_GOAL: Goal = Goal::Time(2_000.0);
 
 /// The 256 links of a procedure that is called from outside and then by itself.
 fn deep(t: &Full) -> Vec<u32> {
@@ -51,107 +23,118 @@ fn deep(t: &Full) -> Vec<u32> {
     links
 }
 
-/// The words with one of them changed.
-fn with(words: &[u32], at: usize, word: u32) -> Vec<u32> {
-    let mut changed = words.to_vec();
-    changed[at] = word;
-    changed
+/// Both table checks answer alike: whether the table passes.
+fn passes(t: &[u32]) -> bool {
+    let number = check_table(t);
+    assert!(number == 0 || number == 30);
+    assert_eq!(check::check_table(t), number == 0);
+    number == 0
 }
 
-/// Microseconds of one call of each: the best of the rounds. A round times all of them in turn, so that other load meets all alike.
-fn time(calls: &[&dyn Fn() -> u32]) -> Vec<f64> {
-    let mut best = vec![f64::INFINITY; calls.len()];
-    for _ in 0..ROUNDS {
-        for (call, best) in calls.iter().zip(&mut best) {
-            let began = Instant::now();
-            for _ in 0..CALLS {
-                black_box(call());
-            }
-            *best = best.min(began.elapsed().as_secs_f64() * 1e6 / CALLS as f64);
-        }
+/// The number of the state check; the plain one answers alike where the words are a state.
+fn judged(t: &[u32], memory: usize, s: &[u32]) -> u32 {
+    let number = check_state(t, memory, s);
+    let a_state = s.len() == WORDS && s[FLAG] <= 1 && s[WAITING] <= 1 && s[COUNT] <= 256;
+    if number != 30 && a_state {
+        assert_eq!(machine::check_state(t, memory, &plain(s)), number == 0);
     }
-    best
+    number
 }
 
-fn cpu() -> String {
-    let info = std::fs::read_to_string("/proc/cpuinfo").unwrap_or_default();
-    let name = info
-        .lines()
-        .find(|l| l.starts_with("model name"))
-        .and_then(|l| l.split(':').nth(1));
-    name.unwrap_or(" not known").trim().to_string()
+/// The tables pass, and damaged twins do not.
+fn compare_tables(a: &Full, switches: [&Switch; 2]) {
+    for t in [&a.table, &switches[0].table, &switches[1].table] {
+        assert_eq!(t[0], 1024);
+        assert!(passes(t));
+        assert!(!passes(&t[..t.len() - 1]));
+    }
+    assert!(!passes(&with(&a.table, a.last_exit, 101)));
+    for t in switches {
+        assert!(!passes(&with(&t.table, t.last_value, t.table[t.first_value])));
+        assert!(!passes(&with(&t.table, t.last_value, 8000)));
+    }
 }
 
-fn load() -> String {
-    std::fs::read_to_string("/proc/loadavg")
-        .unwrap_or_default()
-        .split(' ')
-        .next()
-        .unwrap_or("")
-        .to_string()
+/// The states pass, and damaged twins do not.
+fn compare_states(a: &Full, shallow: &[u32], nested: &[u32]) {
+    for s in [shallow, nested] {
+        assert_eq!(judged(&a.table, MEMORY, s), 0);
+        assert_eq!(judged(&a.table, MEMORY + 1, s), 31);
+        assert_eq!(judged(&a.table, MEMORY, &s[..WORDS - 1]), 31);
+        assert_eq!(judged(&a.table, MEMORY, &with(s, FLAG, 1)), 0);
+        assert_eq!(judged(&a.table, MEMORY, &with(s, FLAG, 2)), 31);
+        assert_eq!(judged(&a.table, MEMORY, &with(s, WAITING, 1)), 31);
+        assert_eq!(judged(&a.table, MEMORY, &with(s, COUNT, 257)), 31);
+        assert_eq!(judged(&a.table[1..], MEMORY, s), 30);
+        assert_eq!(judged(&a.table[1..], MEMORY, &[]), 30);
+    }
+    assert_eq!(judged(&a.table, MEMORY, &with(nested, LINKS, a.inner)), 31);
+    assert_eq!(judged(&a.table, MEMORY, &with(nested, LINKS + 255, a.other)), 31);
+    assert_eq!(judged(&a.table, MEMORY, &with(nested, PLACE, 0)), 0);
+    assert_eq!(judged(&a.table, MEMORY, &with(shallow, PLACE, a.inside)), 31);
+}
+
+/// Prints the line of a measure: proved, plain, copy. A difference of two calls has no least.
+fn show(name: &str, all: &[&Times], difference: bool) {
+    print!("{name:<48}");
+    for (i, t) in all.iter().enumerate() {
+        let least = if difference && i == 0 { "".to_string() } else { format!("{:.2} /", t.least() / 1e3) };
+        print!(" | {least:>8}{:6.2}", t.median() / 1e3);
+    }
+    println!();
+}
+
+/// Times the table check.
+fn table_check(measures: &mut Measures, name: &str, t: &[u32]) {
+    let mut room = t.to_vec();
+    let mut copied = || black_box(&mut room).copy_from_slice(black_box(t));
+    let mut proved = || used(check_table(black_box(t)));
+    let mut plain = || used(check::check_table(black_box(t)));
+    let [proved, plain, copy] = rounds(ROUNDS, [&mut proved, &mut plain, &mut copied]);
+    show(name, &[&proved, &plain, &copy], false);
+    let measure = Measure::new("checks", name, proved.median()).plain(plain.median()).copy(copy.median());
+    measures.add(measure.goal(TABLE_GOAL));
+}
+
+/// Times the state check, which checks the table first, and what it takes beyond the table check.
+fn state_check(links: &str, t: &[u32], s: &[u32]) -> [Measure; 2] {
+    let own = plain(s);
+    let mut room = t.to_vec();
+    let [whole, table, plain_table, plain_state, copy] = rounds(
+        ROUNDS,
+        [
+            &mut || used(check_state(black_box(t), MEMORY, black_box(s))),
+            &mut || used(check_table(black_box(t))),
+            &mut || used(check::check_table(black_box(t))),
+            &mut || used(machine::check_state(black_box(t), MEMORY, black_box(&own))),
+            &mut || black_box(&mut room).copy_from_slice(black_box(t)),
+        ],
+    );
+    let with = format!("check_state, {links}, with its table check");
+    let plain_whole = plain_table.plus(&plain_state);
+    show(&with, &[&whole, &plain_whole, &copy], false);
+    let less = format!("check_state, {links}, less its table check");
+    let beyond = whole.less(&table);
+    show(&less, &[&beyond, &plain_state], true);
+    [
+        Measure::new("checks", with, whole.median()).plain(plain_whole.median()).copy(copy.median()),
+        Measure::new("checks", less, beyond.median()).plain(plain_state.median()).goal(STATE_GOAL),
+    ]
 }
 
 fn main() {
     let a = full();
     let b = switch(|i| i);
     let c = switch(|i| 1024 + 3 * i);
-    let shallow = state(0, &[]);
-    let nested = state(a.inside, &deep(&a));
+    let (shallow, nested) = (state(0, &[]), state(a.inside, &deep(&a)));
+    compare_tables(&a, [&b, &c]);
+    compare_states(&a, &shallow, &nested);
 
-    // Each passes, and a damaged twin does not.
-    for t in [&a.table, &b.table, &c.table] {
-        assert_eq!(t[0], 1024);
-        assert_eq!(check_table(t), 0);
-        assert_eq!(check_table(&t[..t.len() - 1]), 30);
-    }
-    assert_eq!(check_table(&with(&a.table, a.last_exit, 101)), 30);
-    for t in [&b, &c] {
-        assert_eq!(check_table(&with(&t.table, t.last_value, t.table[t.first_value])), 30);
-        assert_eq!(check_table(&with(&t.table, t.last_value, 8000)), 30);
-    }
-    for s in [&shallow, &nested] {
-        assert_eq!(check_state(&a.table, MEMORY, s), 0);
-        assert_eq!(check_state(&a.table, MEMORY + 1, s), 31);
-        assert_eq!(check_state(&a.table, MEMORY, &s[..WORDS - 1]), 31);
-        assert_eq!(check_state(&a.table, MEMORY, &with(s, FLAG, 1)), 0);
-        assert_eq!(check_state(&a.table, MEMORY, &with(s, FLAG, 2)), 31);
-        assert_eq!(check_state(&a.table, MEMORY, &with(s, WAITING, 1)), 31);
-        assert_eq!(check_state(&a.table, MEMORY, &with(s, COUNT, 257)), 31);
-        assert_eq!(check_state(&a.table[1..], MEMORY, s), 30);
-        assert_eq!(check_state(&a.table[1..], MEMORY, &[]), 30);
-    }
-    assert_eq!(check_state(&a.table, MEMORY, &with(&nested, LINKS, a.inner)), 31);
-    assert_eq!(check_state(&a.table, MEMORY, &with(&nested, LINKS + 255, a.other)), 31);
-    assert_eq!(check_state(&a.table, MEMORY, &with(&nested, PLACE, 0)), 0);
-    assert_eq!(check_state(&a.table, MEMORY, &with(&shallow, PLACE, a.inside)), 31);
-
-    let best = time(&[
-        &|| check_table(black_box(&a.table)),
-        &|| check_table(black_box(&b.table)),
-        &|| check_table(black_box(&c.table)),
-        &|| check_state(black_box(&a.table), MEMORY, black_box(&shallow)),
-        &|| check_state(black_box(&a.table), MEMORY, black_box(&nested)),
-    ]);
-    let [table_a, table_b, table_c, state_0, state_256] = best[..] else {
-        unreachable!()
-    };
-
-    println!(
-        "{}, load {} at the end, microseconds, best of {ROUNDS} rounds of {CALLS} calls",
-        cpu(),
-        load()
-    );
-    println!("check_table, 1,024 entries, procedures and switches   {table_a:8.2}");
-    println!("check_table, one switch, values below 1,024           {table_b:8.2}");
-    println!("check_table, one switch, values of 1,024 and above    {table_c:8.2}");
-    println!("check_state, 0 links, with the table check            {state_0:8.2}");
-    println!(
-        "check_state, 0 links, the difference                  {:8.2}",
-        state_0 - table_a
-    );
-    println!("check_state, 256 links, with the table check          {state_256:8.2}");
-    println!(
-        "check_state, 256 links, the difference                {:8.2}",
-        state_256 - table_a
-    );
+    println!("checks: microseconds, least / median of {ROUNDS} rounds: proved | plain | copy");
+    let measures = &mut Measures::open();
+    table_check(measures, "check_table, procedures and switches", &a.table);
+    table_check(measures, "check_table, one switch, values below 1,024", &b.table);
+    table_check(measures, "check_table, one switch, values from 1,024", &c.table);
+    state_check("no link", &a.table, &shallow);
+    state_check("256 links", &a.table, &nested).into_iter().for_each(|m| measures.add(m));
 }

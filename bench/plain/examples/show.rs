@@ -19,7 +19,8 @@ fn main() {
             machine::resume(&t, &mut m, &mut s, 0);
             (e, k) = machine::run(&t, &mut m, &mut s, 1000);
         }
-        let shown: String = (s.regs[1]..s.regs[1] + s.regs[4]).map(|a| (m[a as usize / 4] >> (8 * (a % 4))) as u8 as char).collect();
+        let shown: String =
+            (s.regs[1]..s.regs[1] + s.regs[4]).map(|a| (m[a as usize / 4] >> (8 * (a % 4))) as u8 as char).collect();
         println!("{path} {e} {k} {shown}");
     }
 }

@@ -57,7 +57,7 @@ fn layout_ok(t: Table) -> bool {
     let mut low = 4 * t.constants() as u64;
     for i in 0..fresh {
         let a = t.fresh(i) as u64;
-        if a < low || a >= 4 * words || a % 4 != 0 || t.start_word(a as usize / 4) != 0 {
+        if a < low || a >= 4 * words || !a.is_multiple_of(4) || t.start_word(a as usize / 4) != 0 {
             return false;
         }
         low = a + 1;
@@ -153,7 +153,11 @@ impl Shape<'_> {
         if !field_ok(self.t, row.slots[0], &e[1..4]) || !field_ok(self.t, row.slots[1], &e[4..7]) {
             return false;
         }
-        let third = if e[7] == 0 { row.slots[2].takes_kind(kind::NONE) } else { row.slots[2].takes_kind(kind::PLACE) && e[7] as usize <= self.t.size() };
+        let third = if e[7] == 0 {
+            row.slots[2].takes_kind(kind::NONE)
+        } else {
+            row.slots[2].takes_kind(kind::PLACE) && e[7] as usize <= self.t.size()
+        };
         if !third || (moves(e[1]) || moves(e[4])) && e[2] == e[5] {
             return false;
         }

@@ -260,9 +260,9 @@ pub static ROWS: [Row; 89] = [
     row("CHK", 1001, Class::Chk, SILENT),
 ];
 
-/// The row of an operation number.
+/// The row of an operation number; the rows are in the order of their numbers.
 pub fn by_number(n: u32) -> Option<&'static Row> {
-    ROWS.iter().find(|r| r.number == n)
+    ROWS.binary_search_by_key(&n, |r| r.number).ok().map(|i| &ROWS[i])
 }
 
 /// The row of three letters.

@@ -23,7 +23,15 @@ pub fn write(t: &[u32], m: &[u32], s: &State, build: u32, file: &mut [u8]) -> Re
     words.extend(&s.links);
     words.extend(&fresh);
     let length = 4 * words.len() + TRAILER;
-    words.extend([build, table.size() as u32, m.len() as u32, s.links.len() as u32, fresh.len() as u32, s.pc, s.waiting as u32]);
+    words.extend([
+        build,
+        table.size() as u32,
+        m.len() as u32,
+        s.links.len() as u32,
+        fresh.len() as u32,
+        s.pc,
+        s.waiting as u32,
+    ]);
     words.extend(&s.regs[1..]);
     words.extend([s.ia, s.flag as u32, length as u32]);
     if file.len() < length {

@@ -230,9 +230,5 @@ pub fn switch(number: impl Fn(u32) -> u32) -> Switch {
     for _ in 0..2 {
         t.put(BRN, place(t.here()), NONE);
     }
-    Switch {
-        table: t.table([0; 4], &[]),
-        first_value: HEADER + ENTRY + 3,
-        last_value: HEADER + ENTRY * cases + 3,
-    }
+    Switch { table: t.table([0; 4], &[]), first_value: HEADER + ENTRY + 3, last_value: HEADER + ENTRY * cases + 3 }
 }
