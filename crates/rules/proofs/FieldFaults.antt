@@ -12,7 +12,7 @@ use Rattle.ops.specs.Ops.{Row, rows}
 use Rattle.rules.specs.Table.{size, constants, workings, freshCount, externals, section4, section5, section6, freshAt, exitCount, startWord, tableLength, field, classAt, value, target1, target2, target3, executable, bodyAt, namesProcedure, namesExternal, callee, declared}
 use Rattle.rules.specs.Check.{smaller, among, registerOk, valueOk, operandOk, thirdOk, fieldsOk, apart, outside, reaches, isOutside, startsSection, allExits, exitList, iffs, valueKnown, unlike, distinctIffs, switchList, exitNumberOk, faultAt, rulesHold, sectionsOk, freshOk, countsOk, limitsOk, layoutOk, tableOk}
 use Rattle.ops.specs.Format.{Format, risingKind}
-use Rattle.rules.proofs.Faults.{Edit, card, edited, Case, passes, breaks, faultsBelow, refusedWith, asExpected, failing, plain}
+use Rattle.rules.proofs.Faults.{expectedBy, rowsFrom, entryOk, entryApart, faultBy, quick-failing, quickBelow, quickExpected, quickFailing, quickFault, Edit, card, edited, Case, passes, breaks, faultsBelow, refusedWith, asExpected, failing, plain}
 
 -- Kinds of an operand.
 
@@ -225,9 +225,9 @@ registers =
     ∷ []
 
 pub value-faults : failing plain values 0 ≡ []
-unfolding faultsBelow refusedWith asExpected failing _and_ _or_ if member same rows size constants workings freshCount externals section4 section5 section6 freshAt exitCount startWord tableLength field classAt value target1 target2 target3 executable bodyAt namesProcedure namesExternal callee declared smaller among registerOk valueOk operandOk thirdOk fieldsOk apart outside reaches isOutside startsSection allExits exitList iffs valueKnown unlike distinctIffs switchList exitNumberOk faultAt rulesHold sectionsOk freshOk countsOk limitsOk layoutOk tableOk
-value-faults = refl
+unfolding expectedBy quickExpected quickFailing rowsFrom entryOk entryApart faultBy quickFault quickBelow _and_ _or_ if member same rows size constants workings freshCount externals section4 section5 section6 freshAt exitCount startWord tableLength field classAt value target1 target2 target3 executable bodyAt namesProcedure namesExternal callee declared smaller among registerOk valueOk operandOk thirdOk apart outside reaches isOutside startsSection allExits exitList iffs valueKnown unlike distinctIffs switchList exitNumberOk sectionsOk freshOk countsOk limitsOk layoutOk
+value-faults = quick-failing plain values 0
 
 pub register-faults : failing plain registers 0 ≡ []
-unfolding faultsBelow refusedWith asExpected failing _and_ _or_ if member same rows size constants workings freshCount externals section4 section5 section6 freshAt exitCount startWord tableLength field classAt value target1 target2 target3 executable bodyAt namesProcedure namesExternal callee declared smaller among registerOk valueOk operandOk thirdOk fieldsOk apart outside reaches isOutside startsSection allExits exitList iffs valueKnown unlike distinctIffs switchList exitNumberOk faultAt rulesHold sectionsOk freshOk countsOk limitsOk layoutOk tableOk
-register-faults = refl
+unfolding expectedBy quickExpected quickFailing rowsFrom entryOk entryApart faultBy quickFault quickBelow _and_ _or_ if member same rows size constants workings freshCount externals section4 section5 section6 freshAt exitCount startWord tableLength field classAt value target1 target2 target3 executable bodyAt namesProcedure namesExternal callee declared smaller among registerOk valueOk operandOk thirdOk apart outside reaches isOutside startsSection allExits exitList iffs valueKnown unlike distinctIffs switchList exitNumberOk sectionsOk freshOk countsOk limitsOk layoutOk
+register-faults = quick-failing plain registers 0
