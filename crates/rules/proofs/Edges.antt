@@ -2,12 +2,12 @@
 -- overlap or are empty, characters beside the constants, shifts, and the ends of the signed range [S What 003 leaves open].
 -- Assumes nothing.
 use Prim.Native.Nat.{ℕ, zero, suc, _-_}
-use mathlib.Core.Path.{_≡_, refl}
-use mathlib.Core.Bool.{Bool, true, false, cond}
+use mathlib.Core.Path.{_≡_, ap, fun-ext, refl}
+use mathlib.Core.Bool.{Bool, true, false, cond, not}
 use mathlib.Core.List.{List, [], _∷_, _++_}
 use lib.Dec.{eqb}
 use lib.ListN.{replicate, length}
-use Rattle.rules.specs.Number.{outcomeNumber}
+use Rattle.rules.specs.Number.{Verdict, badState, badTable, outcomeNumber, refusedBy}
 use Rattle.base.specs.Test.{_and_, _or_, if}
 use Rattle.base.specs.Lists.{member, same}
 use Rattle.ops.specs.Ops.{rows}
@@ -18,8 +18,9 @@ use Rattle.rules.specs.State.{State, memoryFits, stateOk}
 use Rattle.rules.specs.Operand.{spotOf, movedOf, wordAt, charAt, given, fetchOf, storeOf, charIn, withChar, fetchCharOf, storeCharOf}
 use Rattle.rules.specs.Exec.{changes, copies, combines, tells, compares, loads, accumulated, divided, leiOf, mfiOf, cvmBy, cvmOf, cvdOf, charsFit, ranged, copiedChars, copiedWords, translated, compared, cmcOf, trcOf, mvcOf, mvwOf, lchOf, schOf, act}
 use Rattle.rules.specs.Control.{stateAt, exitOf, choose, effectOf, step}
-use Rattle.rules.specs.Run.{Answer, refused, ended, nowhere, runs, steps, ran, verdict, perform, answer}
+use Rattle.rules.specs.Run.{Answer, Call, ofCall, unlessRefused, refused, ended, nowhere, runs, steps, ran, verdict, perform, answer}
 use Rattle.rules.specs.Start.{ownWords, filled, supplied, refreshed, loaded, started, startOf}
+use Rattle.rules.proofs.Faults.{entryApart, entryOk, faultBy, quick-table, quickBelow, quickFault, quickTable, rowsFrom}
 
 -- a table with two constant words and six working words, whose place 0 holds the entry e; it goes on to place 1 or branches to place 2
 abbrev around : List ℕ → List ℕ
@@ -59,6 +60,35 @@ unfoldable pub differing : List Edge → ℕ → List ℕ
 differing [] i = []
 differing (e ∷ es) i = if (holdsOf e) (differing es (suc i)) (i ∷ differing es (suc i))
 
+-- The same with the table's rules judged by its faults, found once.
+
+unfoldable pub quickVerdict : List ℕ → State → Call → Verdict
+quickVerdict t s c = if (not (quickTable t)) (refusedBy badTable) (if (not (stateOk t s)) (refusedBy badState) (ofCall t s c))
+
+unfoldable pub quickAnswer : List ℕ → State → Call → Answer
+quickAnswer t s c = unlessRefused (quickVerdict t s c) (perform t s c)
+
+quick-answer : (t : List ℕ) (s : State) (c : Call) → answer t s c ≡ quickAnswer t s c
+unfolding answer verdict quickAnswer quickVerdict
+quick-answer t s c = rw (quick-table t)
+
+abbrev quickHolds : Edge → Bool
+quickHolds (taken e z m p z′ m′) = leaves 21 p z′ m′ (quickAnswer (around e) (before z m) (runs 1))
+quickHolds (stops e z m n) = leaves n 0 z m (quickAnswer (around e) (before z m) (runs 1))
+
+quick-holds : (e : Edge) → holdsOf e ≡ quickHolds e
+quick-holds (taken e z m p z′ m′) = rw (quick-answer (around e) (before z m) (runs 1))
+quick-holds (stops e z m n) = rw (quick-answer (around e) (before z m) (runs 1))
+
+unfoldable pub quickDiffering : List Edge → ℕ → List ℕ
+quickDiffering [] i = []
+quickDiffering (e ∷ es) i = if (quickHolds e) (quickDiffering es (suc i)) (i ∷ quickDiffering es (suc i))
+
+quick-differing : (es : List Edge) (i : ℕ) → differing es i ≡ quickDiffering es i
+unfolding differing quickDiffering
+quick-differing [] i = refl
+quick-differing (e ∷ es) i = rw (quick-holds e, quick-differing es (suc i))
+
 abbrev placeOf : Answer → ℕ
 placeOf (refused r) = 0
 placeOf nowhere = 0
@@ -67,6 +97,14 @@ placeOf (ended e k s) = s .pc
 -- the place after operation o on WA = a and WB = b, with its branch to place 2
 unfoldable pub branchOn : ℕ → ℕ → ℕ → ℕ
 branchOn o a b = placeOf (answer (around (o ∷ 8 ∷ 4 ∷ 0 ∷ 8 ∷ 5 ∷ 0 ∷ 3 ∷ [])) (before (ownWords 0 0 0 a b 0 0 0) []) (runs 1))
+
+unfoldable pub quickBranch : ℕ → ℕ → ℕ → ℕ
+quickBranch o a b =
+    placeOf (quickAnswer (around (o ∷ 8 ∷ 4 ∷ 0 ∷ 8 ∷ 5 ∷ 0 ∷ 3 ∷ [])) (before (ownWords 0 0 0 a b 0 0 0) []) (runs 1))
+
+quick-branch : (o a b : ℕ) → branchOn o a b ≡ quickBranch o a b
+unfolding branchOn quickBranch
+quick-branch o a b = rw (quick-answer (around (o ∷ 8 ∷ 4 ∷ 0 ∷ 8 ∷ 5 ∷ 0 ∷ 3 ∷ [])) (before (ownWords 0 0 0 a b 0 0 0) []) (runs 1))
 
 abbrev onAll : List ℕ → (ℕ → ℕ) → List ℕ
 onAll [] f = []
@@ -86,12 +124,23 @@ pub comparisons-branch :
     ∷ (1 ∷ 2 ∷ 2 ∷ 2 ∷ 1 ∷ 1 ∷ 1 ∷ 2 ∷ 1 ∷ 2 ∷ [])
     ∷ (1 ∷ 2 ∷ 1 ∷ 1 ∷ 2 ∷ 2 ∷ 2 ∷ 1 ∷ 1 ∷ 2 ∷ [])
     ∷ []
-unfolding branchOn _and_ _or_ if member same rows signed fits positive textWords shiftRight shiftLeft size constants workings freshCount externals section4 section5 section6 freshAt exitCount startWord tableLength field classAt opAt value target1 target2 target3 slot executable bodyAt namesProcedure namesExternal callee declared calls entryPlace isEntry entryOf smaller among registerOk valueOk operandOk thirdOk fieldsOk apart outside reaches isOutside startsSection allExits exitList iffs valueKnown unlike distinctIffs switchList exitNumberOk faultAt rulesHold sectionsOk freshOk countsOk limitsOk layoutOk tableOk memoryFits stateOk spotOf movedOf wordAt charAt given fetchOf storeOf charIn withChar fetchCharOf storeCharOf changes copies combines tells compares loads accumulated divided leiOf mfiOf cvmBy cvmOf cvdOf charsFit ranged copiedChars copiedWords translated compared cmcOf trcOf mvcOf mvwOf lchOf schOf act exitOf choose effectOf step steps ran verdict perform answer filled supplied refreshed loaded started startOf
-comparisons-branch = refl
+unfolding quickBranch quickAnswer quickVerdict quickTable quickBelow quickFault faultBy entryOk entryApart rowsFrom _and_ _or_ if member same rows signed fits positive textWords shiftRight shiftLeft size constants workings freshCount externals section4 section5 section6 freshAt exitCount startWord tableLength field classAt opAt value target1 target2 target3 slot executable bodyAt namesProcedure namesExternal callee declared calls entryPlace isEntry entryOf smaller among registerOk valueOk operandOk thirdOk apart outside reaches isOutside startsSection allExits exitList iffs valueKnown unlike distinctIffs switchList exitNumberOk sectionsOk freshOk countsOk limitsOk layoutOk memoryFits stateOk spotOf movedOf wordAt charAt given fetchOf storeOf charIn withChar fetchCharOf storeCharOf changes copies combines tells compares loads accumulated divided leiOf mfiOf cvmBy cvmOf cvdOf charsFit ranged copiedChars copiedWords translated compared cmcOf trcOf mvcOf mvwOf lchOf schOf act exitOf choose effectOf step steps ran perform filled supplied refreshed loaded started startOf
+comparisons-branch =
+    ap
+    (λ (f : ℕ → ℕ → ℕ → ℕ).
+    onAll comparisons (λ o. f o 5 5) ∷ onAll comparisons (λ o. f o 2147483648 1) ∷ onAll comparisons (λ o. f o 1 4294967295) ∷ [])
+    (fun-ext (λ o. fun-ext (λ a. fun-ext (λ b. quick-branch o a b))))
 
 -- the place after operation o on IA's bits i, with its branch to place 2
 unfoldable pub signOn : ℕ → ℕ → ℕ
 signOn o i = placeOf (answer (around (o ∷ 6 ∷ 0 ∷ 2 ∷ 0 ∷ 0 ∷ 0 ∷ 0 ∷ [])) (before (ownWords 0 0 0 0 0 0 i 0) []) (runs 1))
+
+unfoldable pub quickSign : ℕ → ℕ → ℕ
+quickSign o i = placeOf (quickAnswer (around (o ∷ 6 ∷ 0 ∷ 2 ∷ 0 ∷ 0 ∷ 0 ∷ 0 ∷ [])) (before (ownWords 0 0 0 0 0 0 i 0) []) (runs 1))
+
+quick-sign : (o i : ℕ) → signOn o i ≡ quickSign o i
+unfolding signOn quickSign
+quick-sign o i = rw (quick-answer (around (o ∷ 6 ∷ 0 ∷ 2 ∷ 0 ∷ 0 ∷ 0 ∷ 0 ∷ [])) (before (ownWords 0 0 0 0 0 0 i 0) []) (runs 1))
 
 -- INO, IOV, IEQ, IGE, IGT, ILE, ILT, INE of 0, 2147483647, -2147483648 and -1, the flag off
 abbrev signs : List ℕ
@@ -108,8 +157,12 @@ pub signs-branch :
     ∷ (2 ∷ 1 ∷ 1 ∷ 1 ∷ 1 ∷ 2 ∷ 2 ∷ 2 ∷ [])
     ∷ (2 ∷ 1 ∷ 1 ∷ 1 ∷ 1 ∷ 2 ∷ 2 ∷ 2 ∷ [])
     ∷ []
-unfolding signOn _and_ _or_ if member same rows signed fits positive textWords shiftRight shiftLeft size constants workings freshCount externals section4 section5 section6 freshAt exitCount startWord tableLength field classAt opAt value target1 target2 target3 slot executable bodyAt namesProcedure namesExternal callee declared calls entryPlace isEntry entryOf smaller among registerOk valueOk operandOk thirdOk fieldsOk apart outside reaches isOutside startsSection allExits exitList iffs valueKnown unlike distinctIffs switchList exitNumberOk faultAt rulesHold sectionsOk freshOk countsOk limitsOk layoutOk tableOk memoryFits stateOk spotOf movedOf wordAt charAt given fetchOf storeOf charIn withChar fetchCharOf storeCharOf changes copies combines tells compares loads accumulated divided leiOf mfiOf cvmBy cvmOf cvdOf charsFit ranged copiedChars copiedWords translated compared cmcOf trcOf mvcOf mvwOf lchOf schOf act exitOf choose effectOf step steps ran verdict perform answer filled supplied refreshed loaded started startOf
-signs-branch = refl
+unfolding quickSign quickAnswer quickVerdict quickTable quickBelow quickFault faultBy entryOk entryApart rowsFrom _and_ _or_ if member same rows signed fits positive textWords shiftRight shiftLeft size constants workings freshCount externals section4 section5 section6 freshAt exitCount startWord tableLength field classAt opAt value target1 target2 target3 slot executable bodyAt namesProcedure namesExternal callee declared calls entryPlace isEntry entryOf smaller among registerOk valueOk operandOk thirdOk apart outside reaches isOutside startsSection allExits exitList iffs valueKnown unlike distinctIffs switchList exitNumberOk sectionsOk freshOk countsOk limitsOk layoutOk memoryFits stateOk spotOf movedOf wordAt charAt given fetchOf storeOf charIn withChar fetchCharOf storeCharOf changes copies combines tells compares loads accumulated divided leiOf mfiOf cvmBy cvmOf cvdOf charsFit ranged copiedChars copiedWords translated compared cmcOf trcOf mvcOf mvwOf lchOf schOf act exitOf choose effectOf step steps ran perform filled supplied refreshed loaded started startOf
+signs-branch =
+    ap
+    (λ (f : ℕ → ℕ → ℕ).
+    onAll signs (λ o. f o 0) ∷ onAll signs (λ o. f o 2147483647) ∷ onAll signs (λ o. f o 2147483648) ∷ onAll signs (λ o. f o 4294967295) ∷ [])
+    (fun-ext (λ o. fun-ext (λ i. quick-sign o i)))
 
 -- Words and addresses.
 abbrev words : List Edge
@@ -225,13 +278,13 @@ ranges =
     ∷ []
 
 pub word-edges : differing words 0 ≡ []
-unfolding differing _and_ _or_ if member same rows signed fits positive textWords shiftRight shiftLeft size constants workings freshCount externals section4 section5 section6 freshAt exitCount startWord tableLength field classAt opAt value target1 target2 target3 slot executable bodyAt namesProcedure namesExternal callee declared calls entryPlace isEntry entryOf smaller among registerOk valueOk operandOk thirdOk fieldsOk apart outside reaches isOutside startsSection allExits exitList iffs valueKnown unlike distinctIffs switchList exitNumberOk faultAt rulesHold sectionsOk freshOk countsOk limitsOk layoutOk tableOk memoryFits stateOk spotOf movedOf wordAt charAt given fetchOf storeOf charIn withChar fetchCharOf storeCharOf changes copies combines tells compares loads accumulated divided leiOf mfiOf cvmBy cvmOf cvdOf charsFit ranged copiedChars copiedWords translated compared cmcOf trcOf mvcOf mvwOf lchOf schOf act exitOf choose effectOf step steps ran verdict perform answer filled supplied refreshed loaded started startOf
-word-edges = refl
+unfolding quickDiffering quickAnswer quickVerdict quickTable quickBelow quickFault faultBy entryOk entryApart rowsFrom _and_ _or_ if member same rows signed fits positive textWords shiftRight shiftLeft size constants workings freshCount externals section4 section5 section6 freshAt exitCount startWord tableLength field classAt opAt value target1 target2 target3 slot executable bodyAt namesProcedure namesExternal callee declared calls entryPlace isEntry entryOf smaller among registerOk valueOk operandOk thirdOk apart outside reaches isOutside startsSection allExits exitList iffs valueKnown unlike distinctIffs switchList exitNumberOk sectionsOk freshOk countsOk limitsOk layoutOk memoryFits stateOk spotOf movedOf wordAt charAt given fetchOf storeOf charIn withChar fetchCharOf storeCharOf changes copies combines tells compares loads accumulated divided leiOf mfiOf cvmBy cvmOf cvdOf charsFit ranged copiedChars copiedWords translated compared cmcOf trcOf mvcOf mvwOf lchOf schOf act exitOf choose effectOf step steps ran perform filled supplied refreshed loaded started startOf
+word-edges = quick-differing words 0
 
 pub integer-edges : differing integers 0 ≡ []
-unfolding differing _and_ _or_ if member same rows signed fits positive textWords shiftRight shiftLeft size constants workings freshCount externals section4 section5 section6 freshAt exitCount startWord tableLength field classAt opAt value target1 target2 target3 slot executable bodyAt namesProcedure namesExternal callee declared calls entryPlace isEntry entryOf smaller among registerOk valueOk operandOk thirdOk fieldsOk apart outside reaches isOutside startsSection allExits exitList iffs valueKnown unlike distinctIffs switchList exitNumberOk faultAt rulesHold sectionsOk freshOk countsOk limitsOk layoutOk tableOk memoryFits stateOk spotOf movedOf wordAt charAt given fetchOf storeOf charIn withChar fetchCharOf storeCharOf changes copies combines tells compares loads accumulated divided leiOf mfiOf cvmBy cvmOf cvdOf charsFit ranged copiedChars copiedWords translated compared cmcOf trcOf mvcOf mvwOf lchOf schOf act exitOf choose effectOf step steps ran verdict perform answer filled supplied refreshed loaded started startOf
-integer-edges = refl
+unfolding quickDiffering quickAnswer quickVerdict quickTable quickBelow quickFault faultBy entryOk entryApart rowsFrom _and_ _or_ if member same rows signed fits positive textWords shiftRight shiftLeft size constants workings freshCount externals section4 section5 section6 freshAt exitCount startWord tableLength field classAt opAt value target1 target2 target3 slot executable bodyAt namesProcedure namesExternal callee declared calls entryPlace isEntry entryOf smaller among registerOk valueOk operandOk thirdOk apart outside reaches isOutside startsSection allExits exitList iffs valueKnown unlike distinctIffs switchList exitNumberOk sectionsOk freshOk countsOk limitsOk layoutOk memoryFits stateOk spotOf movedOf wordAt charAt given fetchOf storeOf charIn withChar fetchCharOf storeCharOf changes copies combines tells compares loads accumulated divided leiOf mfiOf cvmBy cvmOf cvdOf charsFit ranged copiedChars copiedWords translated compared cmcOf trcOf mvcOf mvwOf lchOf schOf act exitOf choose effectOf step steps ran perform filled supplied refreshed loaded started startOf
+integer-edges = quick-differing integers 0
 
 pub range-edges : differing ranges 0 ≡ []
-unfolding differing _and_ _or_ if member same rows signed fits positive textWords shiftRight shiftLeft size constants workings freshCount externals section4 section5 section6 freshAt exitCount startWord tableLength field classAt opAt value target1 target2 target3 slot executable bodyAt namesProcedure namesExternal callee declared calls entryPlace isEntry entryOf smaller among registerOk valueOk operandOk thirdOk fieldsOk apart outside reaches isOutside startsSection allExits exitList iffs valueKnown unlike distinctIffs switchList exitNumberOk faultAt rulesHold sectionsOk freshOk countsOk limitsOk layoutOk tableOk memoryFits stateOk spotOf movedOf wordAt charAt given fetchOf storeOf charIn withChar fetchCharOf storeCharOf changes copies combines tells compares loads accumulated divided leiOf mfiOf cvmBy cvmOf cvdOf charsFit ranged copiedChars copiedWords translated compared cmcOf trcOf mvcOf mvwOf lchOf schOf act exitOf choose effectOf step steps ran verdict perform answer filled supplied refreshed loaded started startOf
-range-edges = refl
+unfolding quickDiffering quickAnswer quickVerdict quickTable quickBelow quickFault faultBy entryOk entryApart rowsFrom _and_ _or_ if member same rows signed fits positive textWords shiftRight shiftLeft size constants workings freshCount externals section4 section5 section6 freshAt exitCount startWord tableLength field classAt opAt value target1 target2 target3 slot executable bodyAt namesProcedure namesExternal callee declared calls entryPlace isEntry entryOf smaller among registerOk valueOk operandOk thirdOk apart outside reaches isOutside startsSection allExits exitList iffs valueKnown unlike distinctIffs switchList exitNumberOk sectionsOk freshOk countsOk limitsOk layoutOk memoryFits stateOk spotOf movedOf wordAt charAt given fetchOf storeOf charIn withChar fetchCharOf storeCharOf changes copies combines tells compares loads accumulated divided leiOf mfiOf cvmBy cvmOf cvdOf charsFit ranged copiedChars copiedWords translated compared cmcOf trcOf mvcOf mvwOf lchOf schOf act exitOf choose effectOf step steps ran perform filled supplied refreshed loaded started startOf
+range-edges = quick-differing ranges 0
