@@ -66,6 +66,11 @@ at() {
     od -An -tu1 -j "$2" -N 1 "$1" | tr -d ' '
 }
 
+# deck PROGRAM FILE: cards with this section 4
+deck() {
+    printf ' SEC\nSYSPR EXP E,0\nSYSTW EXP E,2\n SEC\n SEC\nMINUS DIC -5\nONE$$ DAC 1\nABCDE DTC /ABCDE/\n SEC\n SEC\n%s\n SEC\n ERB 1,STACK FULL\n SEC\n BRN START\n END\n' "$1" > "$2"
+}
+
 # Wrong use, and help.
 see="; see 'torzimlak help'"
 for word in help --help -h; do
@@ -155,10 +160,12 @@ same 'the folder stays empty' "$(ls -A ../folder)" ''
 limited() {
     (ulimit -f 1 && "$torzimlak" "$@")
 }
-try 1 '' 'basket.table: File too large' limited assemble basket.min basket.table
-"$torzimlak" assemble basket.min ../basket.table > ../out
-same 'a write that fails half-way leaves the table' "$(cmp basket.table ../basket.table 2>&1)" ''
-try 1 '' 'new.table: File too large' limited assemble basket.min new.table
+deck "START ICV WA
+$(yes ' ICV WA' | head -n 200)
+ BRN START" ../large.min
+try 1 '' 'greeting.table: File too large' limited assemble ../large.min greeting.table
+same 'a write that fails half-way leaves the table' "$(cmp greeting.table ../kept 2>&1)" ''
+try 1 '' 'new.table: File too large' limited assemble ../large.min new.table
 same 'a write that fails half-way leaves no file' "$(files)" "$before"
 
 # assemble: over its own cards, with the mode of any new file, and through a name with blanks.
@@ -193,9 +200,6 @@ for word in 0 1 2 3 4 5 6 7; do
 done
 
 # run: endings, registers, texts.
-deck() {
-    printf ' SEC\nSYSPR EXP E,0\nSYSTW EXP E,2\n SEC\n SEC\nMINUS DIC -5\nONE$$ DAC 1\nABCDE DTC /ABCDE/\n SEC\n SEC\n%s\n SEC\n ERB 1,STACK FULL\n SEC\n BRN START\n END\n' "$1" > "$2"
-}
 try 0 'ended 20: waiting for the host at a call of an external procedure
 steps 13, place 12, open calls 0
 XL 24, XR 36, XS 32768, WA 12, WB 33, WC 0, IA 0, overflow 0
@@ -246,15 +250,15 @@ waits in EXP 0, exits 0'
 try 0 "fresh words: 1, as given
 $waits" '' "$torzimlak" run token.min 4294967295
 try 0 "fresh words: 1, as given
-$waits" '' "$torzimlak" run token.min 007
+$waits" '' "$torzimlak" run token.min 0004294967295
 try 0 "fresh words: 1, from the system
 $waits" '' "$torzimlak" run token.min
-for word in 4294967296 99999999999999999999 -1 0x10 1.5 one ' 1' '1 '; do
+for word in 4294967296 04294967296 99999999999999999999 -1 0x10 1.5 one ' 1' '1 '; do
     try 1 '' "$word: this is no whole number from 0 to 4294967295" "$torzimlak" run token.min "$word"
 done
 try 1 '' ': this is no whole number from 0 to 4294967295' "$torzimlak" run token.min ''
-try 1 '' 'token.min: refused (43): the program has 1 fresh words, and 2 are given' "$torzimlak" run token.min 1 2
-try 1 '' 'greeting.min: refused (43): the program has 0 fresh words, and 1 are given' "$torzimlak" run greeting.min 1
+try 1 '' "token.min: refused (43): the count of fresh words is not the program's: 2 given, 1 needed" "$torzimlak" run token.min 1 2
+try 1 '' "greeting.min: refused (43): the count of fresh words is not the program's: 1 given, 0 needed" "$torzimlak" run greeting.min 1
 
 # freeze: what it says, what it writes, what it leaves.
 try 0 "fresh words: 1, as given
@@ -327,7 +331,7 @@ try 1 '' '../empty: the file is empty' "$torzimlak" wake token.min ../empty 1
 try 1 '' '../folder: Is a directory' "$torzimlak" wake token.min ../folder 1
 try 1 '' '../missing: No such file or directory' "$torzimlak" wake token.min ../missing 1
 try 1 '' '/dev/zero: the file is longer than any snapshot' "$torzimlak" wake token.min /dev/zero 1
-try 1 '' 'token.min: refused (43): the program has 1 fresh words, and 2 are given' "$torzimlak" wake token.min token.snapshot 1 2
+try 1 '' "token.min: refused (43): the count of fresh words is not the program's: 2 given, 1 needed" "$torzimlak" wake token.min token.snapshot 1 2
 
 # Standard input and output.
 closed() {
@@ -341,6 +345,10 @@ full() {
 }
 try 1 '' 'standard output: No space left on device' full run greeting.min
 try 1 '' 'standard output: No space left on device' full help
+mute() {
+    "$torzimlak" "$@" >&-
+}
+try 1 '' 'torzimlak: standard output is closed' mute help
 
 # The script: from any folder, by any path, through a link, in a folder with blanks, and where it cannot build.
 mkdir -p '../a b/c' '../bin'

@@ -3,6 +3,9 @@ use super::page::complain;
 use super::page::put;
 use super::page::put_number;
 
+// The refusal of another count of fresh words than the program's.
+const FRESH_COUNT_OFF: u32 = 43;
+
 // Why something was refused.
 fn put_reason(page: &mut [u8], at: usize, number: u32) -> usize {
     match number {
@@ -100,20 +103,41 @@ fn put_line(page: &mut [u8], at: usize, line: u64) -> usize {
     put_number(page, behind, line)
 }
 
+// The file, the line of its cards, the refusal's number and why.
 fn put_refusal(page: &mut [u8], path: &[u8], line: u64, number: u32) -> usize {
     let mut at = put(page, 0, path);
     at = put_line(page, at, line);
     at = put(page, at, b": refused (");
     at = put_number(page, at, number as u64);
     at = put(page, at, b"): ");
-    at = put_reason(page, at, number);
+    put_reason(page, at, number)
+}
+
+fn put_refused(page: &mut [u8], path: &[u8], line: u64, number: u32) -> usize {
+    let at = put_refusal(page, path, line, number);
     put(page, at, b"\n")
 }
 
-// A line on standard error: the file, the line of its cards, the refusal's number and why.
+// A refusal as a line on standard error.
 pub fn refuse(path: &[u8], line: u64, number: u32) {
     let mut page = io::large_buffer();
-    let n = put_refusal(&mut page, path, line, number);
+    let n = put_refused(&mut page, path, line, number);
+    complain(&page, n);
+}
+
+fn put_miscount(page: &mut [u8], path: &[u8], needed: usize, given: usize) -> usize {
+    let mut at = put_refusal(page, path, 0, FRESH_COUNT_OFF);
+    at = put(page, at, b": ");
+    at = put_number(page, at, given as u64);
+    at = put(page, at, b" given, ");
+    at = put_number(page, at, needed as u64);
+    put(page, at, b" needed\n")
+}
+
+// The refusal of fresh words that are too few or too many.
+pub fn refuse_count(path: &[u8], needed: usize, given: usize) {
+    let mut page = io::large_buffer();
+    let n = put_miscount(&mut page, path, needed, given);
     complain(&page, n);
 }
 

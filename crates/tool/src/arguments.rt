@@ -1,20 +1,21 @@
 // The arguments of the command: paths, and the fresh words of a machine.
-ghost use Prim.Native.Nat.{_≤_};
+ghost use mathlib.Core.Path.{_≡_};
+ghost use mathlib.Core.Bool.{true};
+ghost use Prim.Native.Nat.{_+_, _*_, _-_, _≤_};
 ghost use Rattle.io.specs.Counts.{Counts};
+ghost use Rattle.language.specs.Text.{byte, isDigit};
+ghost use Rattle.asm_types.specs.Views.{mostWord};
+ghost use Rattle.tool.specs.Word.{wordOf, wordView};
+use super::answers::refuse_count;
 use super::files::tell;
-use super::page::complain;
-use super::page::put;
-use super::page::put_number;
-use asm_names::number_of;
-use asm_types::Parsed;
+use asm_text::is_digit;
 use bodies::entry::index;
-use check::same;
 use loading::FRESH;
 use loading::WORD;
 use ops::machine::Machine;
 use snapshot::copy::read_words;
 
-// The largest word, above which number_of cuts off.
+// The largest word.
 const MOST_WORD: u64 = 4294967295;
 
 // Bytes for all fresh words that a program can have.
@@ -49,19 +50,34 @@ pub fn path_at(i: usize, name: &[u8], room: &mut [u8]) -> usize
     n
 }
 
-// A word in decimal digits. The largest is told from a number that was cut off by its digits.
-fn word_in(text: &[u8]) -> Word {
-    let p = number_of(text);
-    let Parsed::Is(n) = p else {
-        return Word::Not;
-    };
-    if MOST_WORD < n {
+// A word with one more digit.
+fn with_digit(n: u64, b: u8) -> u64
+    requires { ⌜ (n ≤ mostWord) × (isDigit b ≡ true) ⌝ }
+    ensures { λ r. ⌜ r ≡ 10 * n + (b - byte "0") ⌝ }
+{
+    10 * n + (b - b'0') as u64
+}
+
+// The word that a text's digits make.
+fn word_in(text: &[u8]) -> Word
+    ensures { λ r. ⌜ wordView r ≡ wordOf (now (text .entry)) ⌝ }
+{
+    if text.len() == 0 {
         return Word::Not;
     }
-    if n == MOST_WORD {
-        if !same(text, b"4294967295") {
+    let mut n: u64 = 0;
+    let mut i: usize = 0;
+    while i < text.len() {
+        let b = text[i];
+        if !is_digit(b) {
             return Word::Not;
         }
+        let m = with_digit(n, b);
+        if MOST_WORD < m {
+            return Word::Not;
+        }
+        n = m;
+        i += 1;
     }
     Word::Is(n as u32)
 }
@@ -109,21 +125,6 @@ fn draw_words(room: &mut [u32]) -> bool {
     true
 }
 
-fn put_count(page: &mut [u8], path: &[u8], needed: usize, given: usize) -> usize {
-    let mut at = put(page, 0, path);
-    at = put(page, at, b": refused (43): the program has ");
-    at = put_number(page, at, needed as u64);
-    at = put(page, at, b" fresh words, and ");
-    at = put_number(page, at, given as u64);
-    put(page, at, b" are given\n")
-}
-
-fn miscounted(path: &[u8], needed: usize, given: usize) {
-    let mut page = io::large_buffer();
-    let n = put_count(&mut page, path, needed, given);
-    complain(&page, n);
-}
-
 // How many arguments there are from argument first on.
 fn given_from(first: u32) -> usize {
     let n = os::arg_count();
@@ -159,7 +160,7 @@ pub fn fresh_words(path: &[u8], first: u32, room: &mut [u32]) -> Supply {
         return Supply::Refused;
     }
     if given != needed {
-        miscounted(path, needed, given);
+        refuse_count(path, needed, given);
         return Supply::Refused;
     }
     if take_words(first, room) {

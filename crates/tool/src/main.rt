@@ -50,12 +50,12 @@ fn put_usage(page: &mut [u8]) -> usize {
     at = put(
         page,
         at,
-        b"  torzimlak freeze CARDS SNAPSHOT [WORD ...]  runs it likewise, and writes the machine to a file\n",
+        b"  torzimlak freeze CARDS SNAPSHOT [WORD ...]  runs it, and writes the machine to a file\n",
     );
     at = put(
         page,
         at,
-        b"  torzimlak wake CARDS SNAPSHOT [WORD ...]    wakes the machine, answers the EXP it waits in, runs on\n",
+        b"  torzimlak wake CARDS SNAPSHOT [WORD ...]    wakes the machine, and runs on\n",
     );
     put(
         page,
@@ -69,32 +69,32 @@ fn put_help(page: &mut [u8]) -> usize {
     at = put(
         page,
         at,
-        b"\nCARDS are at most 32,768 bytes of text. A TABLE holds words of four bytes, the low byte first.\n",
+        b"\nCARDS have at most 32,768 bytes. A TABLE holds words of 4 bytes, the low byte first.\n",
     );
     at = put(
         page,
         at,
-        b"A program starts in 8,192 words of zeroed memory with 0 in WA, and a run takes at most 1,000,000 steps.\n",
+        b"A program starts in 8,192 words of zeros with 0 in WA; a run has up to 1,000,000 steps.\n",
     );
     at = put(
         page,
         at,
-        b"WORDs are the program's fresh words, as decimal numbers: all of them, or none, and then the system draws them.\n",
+        b"WORDs are its fresh words, in decimal: all of them, or none, and the system draws them.\n",
     );
     at = put(
         page,
         at,
-        b"In an EXP a program shows WA characters from XL on; wake answers it without an exit. Snapshots have build 1.\n",
+        b"Where it waits in an EXP, WA characters from XL on are shown; wake answers with no exit.\n",
     );
     at = put(
         page,
         at,
-        b"A program that is stopped (22 to 29) is not frozen. A file is written whole, or stays as it was.\n",
+        b"A program that was stopped (22 to 29) is not frozen. The build number is 1.\n",
     );
     put(
         page,
         at,
-        b"What fails is told on standard error, and the exit status is 1 then.\n",
+        b"What fails is told on standard error, with exit status 1, and changes no file.\n",
     )
 }
 

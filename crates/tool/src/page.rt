@@ -1,6 +1,7 @@
 // A page: bytes that a message is put together in, so that it is written by one call, which is seen to succeed.
-ghost use Prim.Native.Nat.{_-_, _≤_};
+ghost use Prim.Native.Nat.{_-_, _≤_, min};
 ghost use mathlib.Core.Path.{_≡_};
+ghost use Rattle.tool.specs.Page.{Puts};
 use io::decimal;
 use io::write_all;
 use libc::STDERR_FILENO;
@@ -15,13 +16,15 @@ fn less(n: usize, k: usize) -> usize
 
 // The smaller of two.
 fn smaller(a: usize, b: usize) -> usize
-    ensures { λ r. ⌜ (r ≤ a) × (r ≤ b) ⌝ }
+    ensures { λ r. ⌜ (r ≡ min a b) × (r ≤ a) × (r ≤ b) ⌝ }
 {
     if a < b { a } else { b }
 }
 
 // The text at byte at on, as much of it as fits. Answers the byte behind it.
-pub fn put(page: &mut [u8], at: usize, text: &[u8]) -> usize {
+pub fn put(page: &mut [u8], at: usize, text: &[u8]) -> usize
+    ensures { λ r. ⌜ Puts (now (page .entry)) at (now (text .entry)) r (now (page .exit)) ⌝ }
+{
     let n = smaller(text.len(), less(page.len(), at));
     let mut i: usize = 0;
     while i < n {
