@@ -1,7 +1,7 @@
 // The numbers that the host sees, in plain words [S Numbers the host sees].
-use super::page::complain;
-use super::page::put;
-use super::page::put_number;
+use console::page::complain;
+use console::page::put;
+use console::page::put_number;
 
 // The refusal of another count of fresh words than the program's.
 const FRESH_COUNT_OFF: u32 = 43;

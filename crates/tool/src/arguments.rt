@@ -1,22 +1,15 @@
 // The arguments of the command: paths, and the fresh words of a machine.
-ghost use mathlib.Core.Path.{_≡_};
-ghost use mathlib.Core.Bool.{true};
-ghost use Prim.Native.Nat.{_+_, _*_, _-_, _≤_};
+ghost use Prim.Native.Nat.{_≤_};
 ghost use Rattle.io.specs.Counts.{Counts};
-ghost use Rattle.language.specs.Text.{byte, isDigit};
-ghost use Rattle.asm_types.specs.Views.{mostWord};
-ghost use Rattle.tool.specs.Word.{wordOf, wordView};
 use super::answers::refuse_count;
-use super::files::tell;
-use asm_text::is_digit;
 use bodies::entry::index;
+use console::files::tell;
+use console::word::Word;
+use console::word::word_in;
 use loading::FRESH;
 use loading::WORD;
 use ops::machine::Machine;
 use snapshot::copy::read_words;
-
-// The largest word.
-const MOST_WORD: u64 = 4294967295;
 
 // Bytes for all fresh words that a program can have.
 const CHANCE: usize = WORD * Machine::MAX_FRESH;
@@ -27,12 +20,6 @@ pub enum Supply {
     System,
     Given,
     Refused,
-}
-
-// A word, or none.
-enum Word {
-    Is(u32),
-    Not,
 }
 
 // Puts argument i, a path, into the room and answers its length; 0 where it is empty or too long, which is told under its name.
@@ -48,38 +35,6 @@ pub fn path_at(i: usize, name: &[u8], room: &mut [u8]) -> usize
         tell(name, b"the name of the file is empty");
     }
     n
-}
-
-// A word with one more digit.
-fn with_digit(n: u64, b: u8) -> u64
-    requires { ⌜ (n ≤ mostWord) × (isDigit b ≡ true) ⌝ }
-    ensures { λ r. ⌜ r ≡ 10 * n + (b - byte "0") ⌝ }
-{
-    10 * n + (b - b'0') as u64
-}
-
-// The word that a text's digits make.
-fn word_in(text: &[u8]) -> Word
-    ensures { λ r. ⌜ wordView r ≡ wordOf (now (text .entry)) ⌝ }
-{
-    if text.len() == 0 {
-        return Word::Not;
-    }
-    let mut n: u64 = 0;
-    let mut i: usize = 0;
-    while i < text.len() {
-        let b = text[i];
-        if !is_digit(b) {
-            return Word::Not;
-        }
-        let m = with_digit(n, b);
-        if MOST_WORD < m {
-            return Word::Not;
-        }
-        n = m;
-        i += 1;
-    }
-    Word::Is(n as u32)
 }
 
 // The word that argument i is; one that is none is told.

@@ -1,15 +1,15 @@
 // Cards and tables in files. A table's file holds its words, four bytes each, the low byte first, as a snapshot holds its own.
 use super::answers::refuse;
 use super::arguments::path_at;
-use super::files::read_file;
-use super::files::tell;
-use super::files::write_file;
-use super::page::put;
-use super::page::put_number;
-use super::page::show;
 use bodies::entry::ENTRY;
 use bodies::entry::HEADER;
 use bodies::entry::SIZE;
+use console::files::read_file;
+use console::files::tell;
+use console::files::write_file;
+use console::page::put;
+use console::page::put_number;
+use console::page::show;
 use host::cards::torzimlak_assemble;
 use host::torzimlak_check_table;
 use loading::WORD;

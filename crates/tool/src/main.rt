@@ -4,9 +4,9 @@
 use cards::on_assemble;
 use cards::on_check;
 use check::same;
-use page::complain;
-use page::put;
-use page::show;
+use console::page::complain;
+use console::page::put;
+use console::page::show;
 use tasks::Task;
 use tasks::on_run;
 use tasks::on_snapshot;
@@ -14,9 +14,7 @@ use tasks::on_snapshot;
 mod answers;
 mod arguments;
 mod cards;
-mod files;
 mod machines;
-mod page;
 mod report;
 mod tasks;
 
@@ -94,7 +92,7 @@ fn put_help(page: &mut [u8]) -> usize {
     put(
         page,
         at,
-        b"What fails is told on standard error, with exit status 1, and changes no file.\n",
+        b"What fails is told on standard error, with exit status 1. A file is written whole or not at all.\n",
     )
 }
 

@@ -1,14 +1,14 @@
 // What a run left, as lines.
 use super::answers::put_ending;
 use super::arguments::Supply;
-use super::page::put;
-use super::page::put_number;
 use asm_text::all_printed;
 use bodies::entry::ENTRY;
 use bodies::entry::HEADER;
 use bodies::entry::SIZE;
 use bodies::entry::VALUE;
 use bodies::entry::index;
+use console::page::put;
+use console::page::put_number;
 use host::lent::WORDS;
 use host::lent::state_of;
 use loading::FRESH;
@@ -21,9 +21,7 @@ use states::bit;
 // Bytes of the longest memory.
 const BYTES: usize = WORD * Machine::MAX_MEMORY;
 
-// Where the sign of a word begins, and how many words there are.
-const HALF: u32 = 2147483648;
-
+// A word over CFP$M, read as signed, is less by this.
 const WHOLE: u64 = 4294967296;
 
 // A name and a word.
@@ -35,7 +33,7 @@ fn put_word(page: &mut [u8], at: usize, name: &[u8], w: u32) -> usize {
 // A name and a word that is read as signed.
 fn put_signed(page: &mut [u8], at: usize, name: &[u8], w: u32) -> usize {
     let mut behind = put(page, at, name);
-    if w < HALF {
+    if w <= Machine::CFP_M {
         return put_number(page, behind, w as u64);
     }
     behind = put(page, behind, b"-");

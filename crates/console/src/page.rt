@@ -1,7 +1,7 @@
 // A page: bytes that a message is put together in, so that it is written by one call, which is seen to succeed.
 ghost use Prim.Native.Nat.{_-_, _≤_, min};
 ghost use mathlib.Core.Path.{_≡_};
-ghost use Rattle.tool.specs.Page.{Puts};
+ghost use Rattle.console.specs.Page.{Puts};
 use io::decimal;
 use io::write_all;
 use libc::STDERR_FILENO;

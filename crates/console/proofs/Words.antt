@@ -13,7 +13,7 @@ use Rattle.base.specs.Test.{_and_, if}
 use Rattle.base.specs.Lists.{_at_}
 use Rattle.language.specs.Text.{Parsed, all, byte, decimal, isDigit, numberOf, parsed, parsedIf, unparsed}
 use Rattle.asm_types.specs.Views.{mostWord}
-use Rattle.tool.specs.Word.{fitting, wordOf}
+use Rattle.console.specs.Word.{fitting, wordOf}
 
 -- the word that digits make after a number n
 abbrev pub more : ℕ → List ℕ → Parsed

@@ -1,12 +1,12 @@
--- `tool::files::folder` meets its contract: i is at most the length, and falls.
+-- `console::files::folder` meets its contract: i is at most the length, and falls.
 -- Assumes nothing.
 use Prim.Native.Nat.{_≤_}
 use native.Mathlib.Omega.{arith}
 use lib.ListN.{length}
-use Rattle.tool.proofs.files.folder.Statement.{statement}
-use Rattle.tool.proofs.files.folder.Tie as tie
-use Rattle.tool.proofs.files.folder.Reads as reads
-use Rattle.tool.proofs.files.folder.Lts as lts
+use Rattle.console.proofs.files.folder.Statement.{statement}
+use Rattle.console.proofs.files.folder.Tie as tie
+use Rattle.console.proofs.files.folder.Reads as reads
+use Rattle.console.proofs.files.folder.Lts as lts
 
 abbrev Inv-loop : tie.InvT-loop
 Inv-loop path i₀ i = i ≤ length path

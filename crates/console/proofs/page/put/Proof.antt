@@ -1,4 +1,4 @@
--- `tool::page::put` meets its contract: after i rounds the page holds the first i bytes of the text.
+-- `console::page::put` meets its contract: after i rounds the page holds the first i bytes of the text.
 -- Assumes nothing.
 use Prim.Native.Nat.{ℕ, _+_, _-_, _<_, _≤_, min}
 use mathlib.Core.Path.{_≡_, refl, sym, ap, _∙_}
@@ -8,9 +8,9 @@ use lib.ListN.{getD, length, length-set, set}
 use lib.Seq.{paste, paste-zero, paste-suc}
 use native.Mathlib.Numerals.{add-one}
 use borrow.Author.Needs.{needs}
-use Rattle.tool.specs.Page.{fitting}
-use Rattle.tool.proofs.page.put.Statement.{statement}
-use Rattle.tool.proofs.page.put.Tie as tie
+use Rattle.console.specs.Page.{fitting}
+use Rattle.console.proofs.page.put.Statement.{statement}
+use Rattle.console.proofs.page.put.Tie as tie
 
 abbrev Inv-loop : tie.InvT-loop
 Inv-loop page₀ at text n i₀ page i = (i ≤ n) × (length page ≡ length page₀) × (page ≡ paste page₀ at text i)

@@ -6,8 +6,8 @@ use lib.Dec.{leb}
 use Rattle.base.specs.Test.{if}
 use Rattle.language.specs.Text.{Parsed, numberOf, parsed, parsedIf, unparsed}
 use Rattle.asm_types.specs.Views.{mostWord}
-use Rattle.tool.specs.declared.arguments.Word.{Word}
-use Rattle.tool.specs.declared.arguments.Word.the-variants.{Is, Not}
+use Rattle.console.specs.declared.word.Word.{Word}
+use Rattle.console.specs.declared.word.Word.the-variants.{Is, Not}
 
 -- a number that is a word
 abbrev pub fitting : Parsed → Parsed

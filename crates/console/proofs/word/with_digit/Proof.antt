@@ -1,29 +1,29 @@
--- `tool::arguments::with_digit` meets its contract.
+-- `console::word::with_digit` meets its contract.
 -- Assumes nothing.
 use Rattle.asm_names.proofs.Numbers.{digit-ge}
 use borrow.Author.Needs.{needs}
-use Rattle.tool.proofs.arguments.with_digit.Statement.{statement}
-use Rattle.tool.proofs.arguments.with_digit.Tie as tie
-use Rattle.tool.proofs.arguments.with_digit.Reads as reads
-use Rattle.tool.proofs.arguments.with_digit.Lts as lts
+use Rattle.console.proofs.word.with_digit.Statement.{statement}
+use Rattle.console.proofs.word.with_digit.Tie as tie
+use Rattle.console.proofs.word.with_digit.Reads as reads
+use Rattle.console.proofs.word.with_digit.Lts as lts
 
--- src/arguments.rt:23:5
+-- src/word.rt:23:5
 mul-result : tie.Need-mul-result
 mul-result c = search needs
 
--- src/arguments.rt:23:15
+-- src/word.rt:23:15
 sub-result : tie.Need-sub-result
 sub-result c = digit-ge _ (c .pre .1)
 
--- src/arguments.rt:23:14
+-- src/word.rt:23:14
 cast-result : tie.Need-cast-result
 cast-result c = search needs
 
--- src/arguments.rt:23:5
+-- src/word.rt:23:5
 add-result : tie.Need-add-result
 add-result c = search needs
 
--- src/arguments.rt:19:1
+-- src/word.rt:19:1
 returns : tie.Need-returns
 returns c = search needs
 
