@@ -367,6 +367,9 @@ building="torzimlak: building the command; the first time takes some minutes, an
 try 1 '' "$building
 torzimlak: the build failed; the end of $away/target/torzimlak.log says why" env PATH="$work/bin:/usr/bin:/bin" "$away/torzimlak" help
 same 'the log of the build' "$(cat "$away/target/torzimlak.log")" 'no proof'
+printf '#!/bin/sh\nexit 0\n' > ../bin/rt
+try 1 '' "$building
+torzimlak: the build left no $away/target/bin/tool; remove $away/target and try again" env PATH="$work/bin:/usr/bin:/bin" "$away/torzimlak" help
 printf '#!/bin/sh\nmkdir -p target/bin\nprintf "#!/bin/sh\\necho built: \\"\\$@\\"\\n" > target/bin/tool\nchmod +x target/bin/tool\n' > ../bin/rt
 try 0 'built: run a deck' "$building" env PATH="$work/bin:/usr/bin:/bin" "$away/torzimlak" run 'a deck'
 try 0 'built: run a deck' '' env PATH=/usr/bin:/bin "$away/torzimlak" run 'a deck'
