@@ -361,8 +361,12 @@ same 'by PATH' "$(PATH="../a b:$PATH" && export PATH && torzimlak run greeting.m
 cp "$torzimlak" '../a b/c/torzimlak'
 away=$(cd '../a b/c' && pwd -P)
 try 1 '' 'torzimlak: the command is not built yet, and rt, the Rattle toolchain that builds it, is not in PATH' env PATH=/usr/bin:/bin "$away/torzimlak" help
-printf '#!/bin/sh\necho no proof\nexit 1\n' > ../bin/rt
+mkdir "$away/target" && mkdir "$away/target/torzimlak.log"
+printf '#!/bin/sh\nexit 1\n' > ../bin/rt
 chmod +x ../bin/rt
+try 1 '' "torzimlak: the command is not built yet, and $away/target/torzimlak.log cannot be written" env PATH="$work/bin:/usr/bin:/bin" "$away/torzimlak" help
+rm -r "$away/target"
+printf '#!/bin/sh\necho no proof\nexit 1\n' > ../bin/rt
 building="torzimlak: building the command; the first time takes some minutes, and $away/target/torzimlak.log shows how far it is"
 try 1 '' "$building
 torzimlak: the build failed; the end of $away/target/torzimlak.log says why" env PATH="$work/bin:/usr/bin:/bin" "$away/torzimlak" help
