@@ -40,7 +40,7 @@ fn tell(w: u32) {
 }
 
 fn tell_signed(w: u32) {
-    if w < 2147483648 {
+    if w <= Machine::CFP_M {
         tell(w);
         return;
     }

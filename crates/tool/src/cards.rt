@@ -1,8 +1,8 @@
 // Cards and tables in files. A table's file holds its words, four bytes each, the low byte first, as a snapshot holds its own.
 use super::answers::refuse;
 use super::arguments::path_at;
-use bodies::entry::ENTRY;
-use bodies::entry::HEADER;
+use assembler::MAX_BYTES;
+use assembler::MAX_TABLE;
 use bodies::entry::SIZE;
 use console::files::read_file;
 use console::files::tell;
@@ -10,27 +10,18 @@ use console::files::write_file;
 use console::page::put;
 use console::page::put_number;
 use console::page::show;
+use host::UPPER;
 use host::cards::torzimlak_assemble;
 use host::torzimlak_check_table;
 use loading::WORD;
-use ops::machine::Machine;
 use snapshot::copy::read_words;
 use snapshot::copy::write_words;
 
 // One byte more than cards may have, so that a longer text is seen to be too long by the assembler.
-const TEXT: usize = 32769;
+const TEXT: usize = MAX_BYTES + 1;
 
-// The most words of a table, and its bytes.
-pub const TABLE: usize = HEADER
-    + ENTRY * Machine::MAX_INSTRS
-    + Machine::MAX_FRESH
-    + Machine::MAX_EXTERNALS
-    + Machine::MAX_WORDS;
-
-const BYTES: usize = WORD * TABLE;
-
-// The two halves of an answer.
-pub const UPPER: u64 = 4294967296;
+// The bytes of the longest table.
+const BYTES: usize = WORD * MAX_TABLE;
 
 // The table of the cards at the front of the room: its length, or 0 where they are refused, which is told.
 fn assemble_text(path: &[u8], text: &[u8], room: &mut [u32]) -> usize {
@@ -76,7 +67,7 @@ fn show_size(path: &[u8], middle: &[u8], table: &[u32]) {
 
 // The table as a file.
 fn write_table(path: &[u8], table: &[u32]) {
-    if TABLE < table.len() {
+    if MAX_TABLE < table.len() {
         return;
     }
     let mut bytes = [0u8; BYTES];
@@ -87,12 +78,12 @@ fn write_table(path: &[u8], table: &[u32]) {
 }
 
 fn assemble_to(cards: &[u8], path: &[u8]) {
-    let mut room = [0u32; TABLE];
+    let mut room = [0u32; MAX_TABLE];
     let n = assemble_file(cards, &mut room);
     if n == 0 {
         return;
     }
-    if TABLE < n {
+    if MAX_TABLE < n {
         return;
     }
     write_table(path, &room[0..n]);
@@ -126,7 +117,7 @@ fn check_words(path: &[u8], table: &[u32]) {
 // Whether the words that the bytes hold are a lawful table; there is room for as many.
 fn check_in(path: &[u8], bytes: &[u8], room: &mut [u32]) {
     let n = room.len();
-    if TABLE < n {
+    if MAX_TABLE < n {
         return;
     }
     if bytes.len() < WORD * n {
@@ -150,7 +141,7 @@ fn check_bytes(path: &[u8], bytes: &[u8]) {
         return;
     }
     let k = n / WORD;
-    let mut room = [0u32; TABLE];
+    let mut room = [0u32; MAX_TABLE];
     check_in(path, bytes, &mut room[0..k]);
 }
 

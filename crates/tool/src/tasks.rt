@@ -3,11 +3,11 @@ use super::arguments::Supply;
 use super::arguments::fresh_in;
 use super::arguments::fresh_words;
 use super::arguments::path_at;
-use super::cards::TABLE;
 use super::cards::assemble_file;
 use super::machines::freeze_fresh;
 use super::machines::run_fresh;
 use super::machines::wake_file;
+use assembler::MAX_TABLE;
 use ops::machine::Machine;
 
 // What is done with a program.
@@ -50,12 +50,12 @@ fn on_table(task: Task, cards: &[u8], path: &[u8], table: &[u32]) {
 }
 
 fn on_cards(task: Task, cards: &[u8], path: &[u8]) {
-    let mut room = [0u32; TABLE];
+    let mut room = [0u32; MAX_TABLE];
     let n = assemble_file(cards, &mut room);
     if n == 0 {
         return;
     }
-    if TABLE < n {
+    if MAX_TABLE < n {
         return;
     }
     on_table(task, cards, path, &room[0..n]);
