@@ -143,7 +143,6 @@ ln -s nowhere ../dangling
 try 1 '' '../dangling: this is a link; name the file itself' "$torzimlak" assemble greeting.min ../dangling
 mkfifo ../pipe
 try 1 '' '../pipe: this is not a plain file' "$torzimlak" assemble greeting.min ../pipe
-try 1 '' '/sys/table: Permission denied' "$torzimlak" assemble greeting.min /sys/table
 if [ "$(id -u)" -ne 0 ]; then
     chmod 555 ../folder
     try 1 '' '../folder/table: Permission denied' "$torzimlak" assemble greeting.min ../folder/table
@@ -182,7 +181,6 @@ try 1 '' '../missing: No such file or directory' "$torzimlak" check ../missing
 try 1 '' '../folder: Is a directory' "$torzimlak" check ../folder
 try 1 '' '../empty: the file is empty' "$torzimlak" check ../empty
 try 1 '' 'TABLE: the name of the file is empty' "$torzimlak" check ''
-try 1 '' '/proc/self/mem: Input/output error' "$torzimlak" check /proc/self/mem
 try 1 '' 'greeting.min: refused (30): the table does not pass its check' sh -c "head -c 400 greeting.min > ../400 && cd .. && cp 400 greeting.min && '$torzimlak' check greeting.min"
 head -c 401 basket.table > ../odd
 try 1 '' "../odd: the file's length is no multiple of 4 bytes, so it holds no table" "$torzimlak" check ../odd
@@ -360,7 +358,9 @@ same 'through a link of a link' "$(cd '../a b/c' && ./tz help)" "$(cat ../help)"
 same 'by PATH' "$(PATH="../a b:$PATH" && export PATH && torzimlak run greeting.min | tail -n 1)" 'text: HELLO, ANNA!'
 cp "$torzimlak" '../a b/c/torzimlak'
 away=$(cd '../a b/c' && pwd -P)
-try 1 '' 'torzimlak: the command is not built yet, and rt, the Rattle toolchain that builds it, is not in PATH' env PATH=/usr/bin:/bin "$away/torzimlak" help
+if ! PATH=/usr/bin:/bin command -v rt > /dev/null; then
+    try 1 '' 'torzimlak: the command is not built yet, and rt, the Rattle toolchain that builds it, is not in PATH' env PATH=/usr/bin:/bin "$away/torzimlak" help
+fi
 mkdir "$away/target" && mkdir "$away/target/torzimlak.log"
 printf '#!/bin/sh\nexit 1\n' > ../bin/rt
 chmod +x ../bin/rt
