@@ -18,7 +18,7 @@ use asm_outcomes::value_at;
 use asm_symbols::fields::add;
 use asm_types::Card;
 use asm_types::Sort;
-use ops::machine::Machine;
+use ops::constants::Machine;
 use ops::table::Operations;
 
 // A word among the numbers of a symbol.

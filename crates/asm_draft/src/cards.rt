@@ -31,7 +31,7 @@ use asm_outcomes::outcome_at;
 use asm_outcomes::value_at;
 use asm_types::Assembly;
 use asm_types::Card;
-use ops::machine::Machine;
+use ops::constants::Machine;
 use ops::table;
 use ops::table::Operations;
 

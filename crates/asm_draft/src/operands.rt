@@ -14,7 +14,6 @@ ghost use Rattle.asm_types.specs.Views.{cardView, operationView, outcomeView, p
 ghost use Rattle.asm_symbols.specs.Symbolic.{FitsCount, Symbolic};
 ghost use Rattle.asm_operations.specs.Codes.{rowOf};
 ghost use Rattle.asm_draft.specs.Operands.{FieldsOf, PlaceFits, typeCount};
-use asm_operands::values::narrow;
 use asm_operations::codes::cell;
 use asm_operations::codes::class_of;
 use asm_outcomes::outcome_at;
@@ -24,6 +23,7 @@ use asm_types::Given;
 use asm_types::Operation;
 use asm_types::Outcome;
 use asm_types::Parsed;
+use asm_values::values::narrow;
 use ops::class;
 use ops::format::NO_KIND;
 use ops::format::NOTHING;

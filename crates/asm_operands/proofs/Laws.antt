@@ -15,7 +15,7 @@ use Rattle.language.specs.Form.{Form, Term, constant, difference, falling, form
 use Rattle.language.specs.Symbol.{Symbol}
 use Rattle.language.specs.Operand.{Outcome, awaits, displaced, gives, indexedBy, misfits, operandOf, plainBy, resolved, signedWithin, takes, termBy, thenBoth, unnamed, valueWithin}
 use Rattle.asm_types.specs.Views.{cut, cutForm, cutTerm, mostWord}
-use Rattle.asm_operands.specs.Read.{formatOf, largestOf}
+use Rattle.asm_values.specs.Read.{formatOf, largestOf}
 use Rattle.asm_operands.specs.LineCard.{lineCard}
 
 pub or-false : (b : Bool) → (b or false) ≡ b

@@ -24,7 +24,7 @@ use Rattle.language.specs.Symbol.{Symbol}
 use Rattle.language.specs.Operand.{operandOf}
 use Rattle.language.specs.Operation.{Assembly, DAC, DBC, DIC, DTC, EJC, END, EQU, EXP, GLB, INP, INR, Operation, SEC, TTL, assembles, assemblyRow, empty, formatsOf, malformed, operates, rowFormats, unknown}
 use Rattle.asm_types.specs.Views.{cutForm}
-use Rattle.asm_operands.specs.Read.{formatOf, hasBit, kindsFrom, largestOf, lastOf}
+use Rattle.asm_values.specs.Read.{formatOf, hasBit, kindsFrom, largestOf, lastOf}
 use Rattle.asm_operands.specs.LineCard.{lineCard}
 use Rattle.asm_operands.proofs.Laws.{cut-operand, line-card}
 

@@ -1,4 +1,2 @@
-// Operands of cards: which forms a format takes, and the kind, register and value that a form gives [M section 7] [S The table].
-pub mod formats;
+// Operands of cards: the kind, register and value that a form gives where its format takes it [M section 7] [S The table].
 pub mod operands;
-pub mod values;

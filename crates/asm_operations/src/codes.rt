@@ -11,6 +11,7 @@ ghost use Rattle.asm_types.specs.Views.{assemblyAt, operationView};
 ghost use Rattle.asm_operations.specs.Codes.{assemblyCode, codeOf, rowOf};
 use asm_types::Assembly;
 use asm_types::Operation;
+use ops::class::NO_CLASS;
 use ops::table;
 use ops::table::Operations;
 
@@ -22,9 +23,6 @@ pub const MALFORMED: u32 = 14;
 pub const UNKNOWN: u32 = 15;
 
 pub const OPERATES: u32 = 16;
-
-// The class of an operation that has no row.
-pub const NO_CLASS: u32 = 19;
 
 // The number of an assembly operation.
 fn assembly_code(a: u32) -> u32

@@ -20,7 +20,7 @@ use Rattle.language.specs.Symbol.{Symbol}
 use Rattle.language.specs.Operand.{Outcome, awaits, gives, misfits, missing, operandAt, operandOf, operandsOf, outcomes, unnamed}
 use Rattle.asm_types.specs.Views.{cutForm}
 use Rattle.asm_operations.proofs.FormatWords.{count-by, countBy, wordAt}
-use Rattle.asm_operands.specs.Read.{formatOf}
+use Rattle.asm_values.specs.Read.{formatOf}
 use Rattle.asm_operands.specs.LineCard.{lineCard}
 use Rattle.asm_operands.proofs.ReadBack.{format-read, operand-read}
 use Rattle.asm_outcomes.specs.Tests.{allBy, testBy}

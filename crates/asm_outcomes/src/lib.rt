@@ -15,7 +15,6 @@ use asm_forms::texts::all_formed;
 use asm_forms::texts::form_at;
 use asm_forms::texts::is_formless;
 use asm_forms::texts::text_count;
-use asm_operands::formats::missing;
 use asm_operands::operands::outcome;
 use asm_operations::formats::format_at;
 use asm_operations::formats::format_count;
@@ -26,6 +25,7 @@ use asm_types::Form;
 use asm_types::Given;
 use asm_types::Outcome;
 use asm_types::Term;
+use asm_values::formats::missing;
 use ops::format::NO_KIND;
 use ops::table::Operations;
 

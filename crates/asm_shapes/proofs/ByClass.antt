@@ -18,11 +18,11 @@ use Rattle.rules.specs.Check.{allExits, belowIff, classRules, exitList, exitNum
 use Rattle.rules.specs.Number.{badList, badOperand}
 use Rattle.rules.specs.Table.{bodyAt, callee, classAt, declared, field, namesProcedure, size, value}
 use Rattle.bodies.proofs.Places.{class-past}
-use Rattle.shapes.specs.Counted.{exitsOf}
-use Rattle.shapes.specs.declared.exits.Exits.the-variants as exits
-use Rattle.shapes.proofs.Codes.{code-same, is-code}
-use Rattle.shapes.proofs.Lists.{callee-named, callee-unnamed, names-place, other-place}
-use Rattle.shapes.proofs.Tests.{and-no, and-none, and-yes, if-no, if-yes, not-no, not-yes, or-no, or-yes}
+use Rattle.shape_core.specs.Counted.{exitsOf}
+use Rattle.shape_core.specs.declared.exits.Exits.the-variants as exits
+use Rattle.shape_core.proofs.Codes.{code-same, is-code}
+use Rattle.shape_core.proofs.Lists.{callee-named, callee-unnamed, names-place, other-place}
+use Rattle.shape_core.proofs.Tests.{and-no, and-none, and-yes, if-no, if-yes, not-no, not-yes, or-no, or-yes}
 use Rattle.language.specs.Fault.{countKnown, listRules, looseClass}
 use Rattle.language.specs.Text.{Parsed, parsed}
 use Rattle.asm_shapes.proofs.Smallest.{allShape, operand-least, pair-first, pair-none, pair-second, shape-faults}

@@ -13,7 +13,7 @@ use Rattle.rules.specs.Number.{Fault, badList, badOperand, badShape, faultNumbe
 use Rattle.rules.specs.Table.{classAt}
 use Rattle.ops.specs.Ops.{rows}
 use Rattle.entries.specs.Coded.{apartAt}
-use Rattle.shapes.proofs.Tests.{if-no, if-yes}
+use Rattle.shape_core.proofs.Tests.{if-no, if-yes}
 use Rattle.language.specs.Fault.{looseClass, looseFault}
 use Rattle.language.specs.Text.{Parsed}
 use Rattle.asm_shapes.specs.Shared.{beside, shared}

@@ -7,14 +7,14 @@ ghost use Rattle.ops.specs.Class.{classCode};
 ghost use Rattle.ops.specs.Ops.{rows, cellsOf};
 ghost use Rattle.rules.specs.Table.{classAt};
 ghost use Rattle.entries.specs.Classes.{ClassesOf};
-ghost use Rattle.entries.specs.Laid.{Laid};
-use entries::fields::NO_CLASS;
-use entries::layout::ENTRY;
-use entries::layout::HEADER;
+ghost use Rattle.table_layout.specs.Laid.{Laid};
+use ops::class::NO_CLASS;
 use ops::lookup::Lookup;
 use ops::lookup::find_number;
 use ops::table::CLASS;
 use ops::table::Operations;
+use table_layout::ENTRY;
+use table_layout::HEADER;
 
 // The class of the entry at p.
 fn class_of(table: &[u32], list: &Operations, p: usize) -> u32

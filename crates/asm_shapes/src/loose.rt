@@ -3,7 +3,7 @@ ghost use mathlib.Core.Path.{_≡_};
 ghost use Prim.Native.Nat.{_<_};
 ghost use Rattle.rules.specs.Check as Check;
 ghost use Rattle.rules.specs.Table.{classAt};
-ghost use Rattle.shapes.specs.Known.{Known};
+ghost use Rattle.shape_core.specs.Known.{Known};
 ghost use Rattle.language.specs.Fault as Fault;
 ghost use Rattle.asm_types.specs.Views.{parsedView};
 use crate::faults::BAD_LIST;
@@ -12,15 +12,15 @@ use crate::faults::class_fault;
 use crate::faults::list_fault;
 use crate::faults::shared_fault;
 use asm_types::Parsed;
-use entries::fields::NO_CLASS;
-use entries::layout::ENTRY;
-use entries::layout::HEADER;
-use entries::layout::index;
 use ops::class;
+use ops::class::NO_CLASS;
 use ops::format::PLACE_KIND;
 use ops::format::VALUE_KIND;
+use shape_core::reach::class_at;
 use shapes::cards::below_iff;
-use shapes::reach::class_at;
+use table_layout::ENTRY;
+use table_layout::HEADER;
+use table_layout::index;
 
 // A JSR at p names no procedure, or one whose exit count is known.
 pub fn count_known(table: &[u32], classes: &[u32], body: &[u32], n: usize, p: usize) -> bool

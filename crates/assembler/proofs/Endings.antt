@@ -10,7 +10,7 @@ use lib.Dec.{leb}
 use lib.ListN.{drop, length}
 use Rattle.base.specs.Test.{_and_, if}
 use Rattle.rules.specs.Check.{sectionsOk}
-use Rattle.shapes.proofs.Tests.{if-no, if-yes}
+use Rattle.shape_core.proofs.Tests.{if-no, if-yes}
 use Rattle.language.specs.Text.{maxBytes}
 use Rattle.language.specs.Card.{cardsOf}
 use Rattle.language.specs.Symbol.{allPlaced}

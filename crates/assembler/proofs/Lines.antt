@@ -10,7 +10,7 @@ use lib.Dec.{eqb}
 use lib.ListN.{drop, drop-of-length-le, length, length-drop, take}
 use lib.Seq.{length-take-le}
 use Rattle.base.specs.Test.{if}
-use Rattle.shapes.proofs.Tests.{if-no, if-yes}
+use Rattle.shape_core.proofs.Tests.{if-no, if-yes}
 use Rattle.language.specs.Text.{lines}
 use Rattle.language.specs.Operation.{END, isAssembly}
 use Rattle.language.specs.Card.{Card, Reader, cardOf, cardsOf, holdsPlace, one, past, start, walk}

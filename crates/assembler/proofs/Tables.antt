@@ -11,9 +11,9 @@ use Rattle.base.specs.Test.{_and_}
 use Rattle.rules.specs.Table.{constants, freshCount, size, tableLength, workings}
 use Rattle.rules.specs.Check.{sectionsOk}
 use Rattle.bodies.specs.Bodies.{Entries, Filled}
-use Rattle.entries.specs.Laid.{Laid}
+use Rattle.table_layout.specs.Laid.{Laid}
 use Rattle.entries.specs.Classes.{ClassesOf}
-use Rattle.entries.proofs.Sizes.{laid}
+use Rattle.table_layout.proofs.Sizes.{laid}
 use Rattle.tables.proofs.Passes.{entries-of, known-of}
 use Rattle.language.specs.Text.{maxBytes}
 use Rattle.language.specs.Card.{Card, cardsOf, holdsPlace}

@@ -5,7 +5,7 @@ use mathlib.Core.Path.{_≡_}
 use mathlib.Core.Bool.{Bool, true}
 use mathlib.Core.List.{List}
 use lib.ListN.{length}
-use Rattle.shapes.specs.Known.{Known}
+use Rattle.shape_core.specs.Known.{Known}
 use Rattle.language.specs.Text.{maxBytes}
 use Rattle.language.specs.Card as Cards
 use Rattle.language.specs.Symbol.{Symbol}

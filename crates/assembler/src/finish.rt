@@ -21,11 +21,11 @@ use asm_collect::Collected;
 use asm_shapes::classes::classes_of;
 use asm_symbols::meanings::all_placed;
 use bodies::body::bodies;
-use entries::layout::index;
-use entries::layout::sections_ok;
-use entries::layout::sum;
-use ops::machine::Machine;
+use ops::constants::Machine;
 use ops::table::Operations;
+use table_layout::index;
+use table_layout::sections_ok;
+use table_layout::sum;
 
 // The labels that a text may have.
 const MAX_LABELS: usize = 512;

@@ -2,7 +2,7 @@
 ghost use mathlib.Core.Path.{_≡_};
 ghost use mathlib.Core.List.{map};
 ghost use Rattle.ops.specs.Ops.{rows, cellsOf};
-ghost use Rattle.shapes.specs.Known.{Known};
+ghost use Rattle.shape_core.specs.Known.{Known};
 ghost use Rattle.language.specs.Card.{cardsOf};
 ghost use Rattle.language.specs.Fault.{faultOf};
 ghost use Rattle.asm_types.specs.Views.{cardView, symbolsIn};

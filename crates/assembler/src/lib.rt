@@ -9,9 +9,9 @@ ghost use Rattle.assembler.specs.Answers.{Answers, answerView, lineOf, n
 use crate::finish::finish;
 use asm_collect::collect;
 use asm_draft::deck::fill;
-use entries::layout::ENTRY;
-use entries::layout::HEADER;
-use ops::machine::Machine;
+use ops::constants::Machine;
+use table_layout::ENTRY;
+use table_layout::HEADER;
 
 pub mod finish;
 pub mod judge;
@@ -83,7 +83,7 @@ fn assemble_short(cards: &[u8], table: &mut [u32]) -> Assembled
     requires { ⌜ length (now cards) ≤ maxBytes ⌝ }
     ensures { λ r. ⌜ Answers (deckOf (now (cards .entry))) r (now (table .entry)) (now (table .exit)) ⌝ }
 {
-    let list = ops::table::rows();
+    let list = op_table::rows();
     let mut syms = [0u64; SYMBOL_WORDS];
     let c = collect(&list, cards, &mut syms);
     let header = [

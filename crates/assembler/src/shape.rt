@@ -3,7 +3,7 @@ ghost use mathlib.Core.Path.{_≡_};
 ghost use mathlib.Core.List.{map};
 ghost use Prim.Native.Nat.{_<_};
 ghost use Rattle.ops.specs.Ops.{rows, cellsOf};
-ghost use Rattle.shapes.specs.Known.{Known};
+ghost use Rattle.shape_core.specs.Known.{Known};
 ghost use Rattle.language.specs.Fault.{isJudged, placeFault, shapeFault};
 ghost use Rattle.asm_types.specs.Views.{cardView, symbolsIn};
 ghost use Rattle.asm_symbols.specs.Symbolic.{Symbolic};
@@ -16,8 +16,8 @@ use asm_shapes::loose::count_known;
 use asm_shapes::loose::loose_fault;
 use asm_symbols::uses::declared_count;
 use asm_types::Card;
-use entries::layout::index;
 use ops::table::Operations;
+use table_layout::index;
 
 // All rules of the card's place can be asked.
 fn is_judged(

@@ -9,7 +9,7 @@ use super::entry::ENP;
 use super::entry::ENTRY;
 use super::entry::HEADER;
 use super::entry::PRC;
-use ops::machine::Machine;
+use ops::constants::Machine;
 
 // Words for the body of each place of any table, and of the place past the last.
 pub const ROOM: usize = Machine::MAX_INSTRS + 1;

@@ -87,7 +87,7 @@ use exec_moves::mov;
 use exec_moves::ssl;
 use exec_moves::sub;
 use exec_moves::zer;
-use ops::machine::Machine;
+use ops::constants::Machine;
 
 // The answer is 64 + the offset of the next entry, 20 at the JSR of an EXP, or the number of a trap, which leaves all as it was.
 // No lent array says that it keeps its length, so the contract says it of the links.

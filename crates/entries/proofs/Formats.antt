@@ -24,9 +24,9 @@ use Rattle.ops.proofs.Rows.{number-exactly, rows-count}
 use Rattle.ops.proofs.Every.{every, every-at}
 use Rattle.rules.specs.Check.{registerOk, valueOk, operandOk, thirdOk, fieldsOk, apart}
 use Rattle.rules.specs.Table.{size, field, classAt}
-use Rattle.entries.specs.Below.{below}
+use Rattle.table_layout.specs.Below.{below}
 use Rattle.entries.specs.Coded.{takesKind, lastOf, largestOf, operandBy, thirdBy, fieldsBy, entryBy, entryOk}
-use Rattle.entries.proofs.Belows.{below-at}
+use Rattle.table_layout.proofs.Belows.{below-at}
 
 -- two tests agree
 unfoldable agree : Bool → Bool → Bool

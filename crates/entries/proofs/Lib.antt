@@ -1,4 +1,2 @@
-pub mod Belows
-pub mod Sizes
 pub mod Formats
 pub mod Filled

@@ -7,7 +7,7 @@ use mathlib.Core.List.{List}
 use lib.ListN.{getD}
 use Rattle.ops.specs.Class.{classCode}
 use Rattle.rules.specs.Table.{classAt}
-use Rattle.entries.specs.Below.{below}
+use Rattle.table_layout.specs.Below.{below}
 use Rattle.entries.specs.Coded.{entryOk}
 
 -- the list holds the class of each of the n entries, and past the last the number of `none`

@@ -1,4 +1,2 @@
-pub mod Laid
-pub mod Below
 pub mod Coded
 pub mod Classes

@@ -9,17 +9,18 @@ ghost use Rattle.base.specs.Test.{_and_, _or_};
 ghost use Rattle.ops.specs.Ops.{rows, cellsOf};
 ghost use Rattle.rules.specs.Check.{among, registerOk, valueOk, apart};
 ghost use Rattle.rules.specs.Table.{constants, workings};
-ghost use Rattle.entries.specs.Laid.{Limited, Laid};
+ghost use Rattle.table_layout.specs.Laid.{Limited, Laid};
 ghost use Rattle.entries.specs.Classes.{Judged};
 ghost use Rattle.entries.specs.Coded.{takesKind, lastOf, largestOf, formatOf, operandBy, thirdBy, fieldsBy, apartAt, entryBy};
-use crate::layout::ENTRY;
-use crate::layout::HEADER;
-use crate::layout::index;
-use crate::layout::sum;
+use ops::class::NO_CLASS;
+use ops::constants::Machine;
 use ops::format::*;
 use ops::lookup::Lookup;
 use ops::lookup::find_number;
-use ops::machine::Machine;
+use table_layout::ENTRY;
+use table_layout::HEADER;
+use table_layout::index;
+use table_layout::sum;
 
 // The tags of the formats with limits of their own: OPC takes XL and XR alone, SHIFT counts to 32 [S Shape rules].
 const OPC_TAG: u32 = OPC / TAG;
@@ -224,9 +225,6 @@ fn entry_ok(table: &[u32], p: usize, one: u32, two: u32, three: u32) -> bool
     }
     apart_at(table, p)
 }
-
-// The class of what stands past the last entry.
-pub const NO_CLASS: u32 = 19;
 
 // The fields of every entry keep the rules of its row in a lent copy of the constant table; the classes of all places are written down.
 pub fn fields_ok(table: &[u32], list: &[[u32; 7]; 89], classes: &mut [u32]) -> bool

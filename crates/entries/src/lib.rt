@@ -1,3 +1,2 @@
-// The parts of a table that are judged on their own: its layout, and the fields of each entry [S The table].
+// The fields of each entry of a table, judged on their own [S The table].
 pub mod fields;
-pub mod layout;

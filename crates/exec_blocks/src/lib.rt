@@ -23,7 +23,7 @@ use exec_loops::copy_words;
 use exec_loops::move_chars;
 use exec_loops::order_chars;
 use exec_loops::translate;
-use ops::machine::Machine;
+use ops::constants::Machine;
 
 // Bytes of a word, as a wide number.
 const CFP_B: u64 = Machine::CFP_B as u64;

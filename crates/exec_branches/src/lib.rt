@@ -22,7 +22,7 @@ use exec_core::operands::operand;
 use exec_core::operands::to_first;
 use exec_core::operands::to_second;
 use exec_core::operands::to_third;
-use ops::machine::Machine;
+use ops::constants::Machine;
 
 // The first word that is negative when read as signed.
 const HALF: u32 = 1 << Machine::CFP_N - 1;

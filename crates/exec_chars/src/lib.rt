@@ -15,7 +15,7 @@ use exec_core::operands::act;
 use exec_core::operands::fetch;
 use exec_core::operands::index;
 use exec_core::operands::operand;
-use ops::machine::Machine;
+use ops::constants::Machine;
 
 // Register one := itself + CFP$F + operand two, wrapped: the address of that character.
 fn point(t: &[u32], b: usize, m: &[u32], z: &mut [u32; 16]) -> usize

@@ -28,10 +28,10 @@ use exec_core::operands::index;
 use exec_core::operands::operand;
 use exec_core::operands::to_first;
 use exec_core::operands::to_third;
+use ops::constants::Machine;
 use ops::format::EXTERNAL_KIND;
 use ops::format::PLACE_KIND;
 use ops::format::VALUE_KIND;
-use ops::machine::Machine;
 
 // Words of the header: fresh words, the start places of sections 5 and 6.
 const FRESH: usize = 3;

@@ -26,8 +26,8 @@ use exec_core::operands::operand;
 use exec_core::operands::store;
 use exec_core::operands::to_first;
 use exec_core::operands::to_second;
+use ops::constants::Machine;
 use ops::format::PLACE_KIND;
-use ops::machine::Machine;
 
 // What operand one holds, of a kind that moves no register.
 fn load(t: &[u32], b: usize, m: &[u32], z: &[u32; 16]) -> Fetched

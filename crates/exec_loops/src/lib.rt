@@ -7,7 +7,7 @@ ghost use Rattle.rules.specs.Operand.{charIn, withChar};
 ghost use Rattle.rules.specs.Exec.{copiedChars, copiedWords, translated, compared};
 ghost use Rattle.exec_loops.specs.Loops.{Within, Skips};
 use exec_core::operands::index;
-use ops::machine::Machine;
+use ops::constants::Machine;
 
 // The character at the address a.
 fn char_in(m: &[u32], a: u32) -> u32

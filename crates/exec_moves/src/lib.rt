@@ -21,7 +21,7 @@ use exec_core::operands::operand;
 use exec_core::operands::store;
 use exec_core::operands::sum;
 use exec_core::operands::to_third;
-use ops::machine::Machine;
+use ops::constants::Machine;
 
 // The largest value of a sum that does not overflow.
 const CFP_M: u64 = Machine::CFP_M as u64;

@@ -22,7 +22,7 @@ use Rattle.rules.specs.Start.{ownWords, Started, begun, unbegun, filled, suppli
 use Rattle.rules.proofs.Vectors.{reference, begins}
 use Rattle.rules.proofs.Samples.{sampleMachine}
 use Rattle.states.specs.Views.{linksOf}
-use Rattle.host.specs.Lent.{stateFrom}
+use Rattle.lent.specs.Lent.{stateFrom}
 use Rattle.freezer.specs.Machines.{calledWords, waitingWords}
 
 -- started with memory of 256 zeros and run with budget 1,000

@@ -4,9 +4,9 @@ ghost use Prim.Native.Nat.{_-_, _≤_};
 use super::telling::tell_answer;
 use super::telling::tell_size;
 use host::torzimlak_restore;
-use ops::machine::Machine;
-use snapshot::copy::read_word;
-use snapshot::copy::write_word;
+use ops::constants::Machine;
+use snap_core::copy::read_word;
+use snap_core::copy::write_word;
 
 // The build number of the files, the words of memory of the machines and the most there are, the bytes of a trailer, and room for any file here.
 pub const BUILD: u32 = 7;

@@ -14,7 +14,7 @@ use Rattle.states.specs.Views.{stateOf}
 use Rattle.states.specs.declared.State.{State}
 use Rattle.states.proofs.Admits.{admit-granted, admit-no-state}
 use Rattle.host.specs.Answer.{tableNumber, admittedWords, stateNumber, verdictNumber}
-use Rattle.host.specs.Lent.{lawful, stateFrom, codeFrom}
+use Rattle.lent.specs.Lent.{lawful, stateFrom, codeFrom}
 
 -- the table passed, or did not
 pub number-passed : (t : List ℕ) (r : Bool) → r ≡ tableOk t → r ≡ true → 0 ≡ tableNumber t

@@ -24,11 +24,11 @@ use Rattle.starting.specs.Answers as Starting
 use Rattle.starting.specs.declared.Answer.{Answer}
 use Rattle.starting.specs.declared.Answer.the-variants as starts
 use Rattle.starting.specs.declared.Started.{Started}
-use Rattle.machine.specs.Answers as Machine
-use Rattle.machine.specs.declared.answers.Answer as Ran
-use Rattle.machine.specs.declared.answers.Answer.the-variants as ran
-use Rattle.host.specs.Lent.{codeFrom, lawful, stateFrom, wordsFrom}
-use Rattle.host.specs.Freezing.{upper}
+use Rattle.resuming.specs.Answers as Machine
+use Rattle.resuming.specs.declared.answers.Answer as Ran
+use Rattle.resuming.specs.declared.answers.Answer.the-variants as ran
+use Rattle.lent.specs.Lent.{codeFrom, lawful, stateFrom, wordsFrom}
+use Rattle.numbers.specs.Numbers.{upper}
 use Rattle.host.specs.Running.{HostResumes, HostRuns, HostStarts, callNumber, callWords, startNumber, startWords, unreadNumber, wordsBegun, wordsLeft}
 use Rattle.host.proofs.Freezes.{passed, taken}
 

@@ -29,8 +29,9 @@ use Rattle.snapshot.specs.declared.writing.Written.{Written}
 use Rattle.snapshot.specs.declared.writing.Written.the-variants as written
 use Rattle.snapshot.specs.declared.writing.Written.the-variants.{Filled, BadState, ShortRoom}
 use Rattle.states.proofs.Admits.{skip, stop}
-use Rattle.host.specs.Lent.{lawful, codeFrom, stateFrom, wordsFrom}
-use Rattle.host.specs.Freezing.{HostRestores, HostWrites, fileNumber, numberOf, numberWritten, restoreWords, upper, wokenNumber, wordsAfter, writeWords}
+use Rattle.lent.specs.Lent.{lawful, codeFrom, stateFrom, wordsFrom}
+use Rattle.host.specs.Freezing.{HostRestores, HostWrites, fileNumber, restoreWords, wokenNumber, wordsAfter, writeWords}
+use Rattle.numbers.specs.Numbers.{numberOf, numberWritten, upper}
 
 -- a choice by its test
 pub taken : {A : Type 0} (b : Bool) (x y : A) → b ≡ true → if b x y ≡ x

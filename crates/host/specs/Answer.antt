@@ -8,7 +8,7 @@ use Rattle.base.specs.Test.{if}
 use Rattle.rules.specs.Number.{Verdict, granted, refusedBy, refusalNumber, badTable, badState}
 use Rattle.rules.specs.Check.{tableOk}
 use Rattle.states.specs.Admit.{admitted}
-use Rattle.host.specs.Lent.{lawful, stateFrom}
+use Rattle.lent.specs.Lent.{lawful, stateFrom}
 
 abbrev pub verdictNumber : Verdict → ℕ
 verdictNumber granted = 0

@@ -2,47 +2,22 @@
 -- Taken where 01 is open: words that are no state are 31 to the writer; room of fewer words than a state has is 31 to restore, judged after 30.
 -- Wrong answers that the equations rule out: a length in the upper half, another refusal's number, the state's words left as they were.
 -- Assumes nothing.
-use Prim.Native.Nat.{ℕ, _*_}
+use Prim.Native.Nat.{ℕ}
 use mathlib.Core.Path.{_≡_}
 use mathlib.Core.Bool.{not}
 use mathlib.Core.List.{List, _++_}
 use lib.Dec.{ltb}
 use lib.ListN.{length, drop}
 use Rattle.base.specs.Test.{if}
-use Rattle.rules.specs.Number.{refusalNumber, badTable, badState, badTrailer, otherProgram, badFrozen, freshCountOff, memoryLengthOff, shortRoom}
+use Rattle.rules.specs.Number.{refusalNumber, badTable, badState}
 use Rattle.rules.specs.Check.{tableOk}
 use Rattle.rules.specs.Snapshot as Snapshot
 use Rattle.rules.specs.State as Rules
 use Rattle.rules.specs.Snapshot.{fileOf, filled, restoreOf, unwoken, unwritten, woken, writeOf}
 use Rattle.snapshot.specs.Answers.{memoryAfter, roomAfter}
 use Rattle.states.specs.Views.{codeOf}
-use Rattle.snapshot.specs.declared.waking.Answer.{Answer}
-use Rattle.snapshot.specs.declared.waking.Answer.the-variants.{Woken, BadTable, BadTrailer, OtherProgram, BadFrozen, FreshCountOff, MemoryLengthOff}
-use Rattle.snapshot.specs.declared.writing.Written.{Written}
-use Rattle.snapshot.specs.declared.writing.Written.the-variants as written
-use Rattle.snapshot.specs.declared.writing.Written.the-variants.{Filled, BadState, ShortRoom}
-use Rattle.host.specs.Lent.{lawful, stateFrom, wordsFrom}
-
--- a number in the upper half of an answer
-abbrev pub upper : ℕ → ℕ
-upper n = 4294967296 * n
-
--- the number of restore's answer as the code has it
-abbrev pub numberOf : Answer → ℕ
-numberOf Woken = 0
-numberOf BadTable = refusalNumber badTable
-numberOf BadTrailer = refusalNumber badTrailer
-numberOf OtherProgram = refusalNumber otherProgram
-numberOf BadFrozen = refusalNumber badFrozen
-numberOf FreshCountOff = refusalNumber freshCountOff
-numberOf MemoryLengthOff = refusalNumber memoryLengthOff
-
--- the number and length of the writer's answer as the code has it
-abbrev pub numberWritten : Written → ℕ
-numberWritten (Filled n) = n
-numberWritten written.BadTable = upper (refusalNumber badTable)
-numberWritten BadState = upper (refusalNumber badState)
-numberWritten ShortRoom = upper (refusalNumber shortRoom)
+use Rattle.lent.specs.Lent.{lawful, stateFrom, wordsFrom}
+use Rattle.numbers.specs.Numbers.{upper}
 
 -- 30, then 31 for words that are no state, then what the rules write of the state that the words are
 unfoldable pub writeWords : List ℕ → List ℕ → List ℕ → ℕ → List ℕ → Snapshot.Written

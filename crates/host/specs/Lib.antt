@@ -1,5 +1,3 @@
 pub mod Answer
-pub mod Cards
 pub mod Freezing
-pub mod Lent
 pub mod Running

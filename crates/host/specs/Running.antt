@@ -18,9 +18,9 @@ use Rattle.rules.specs.Start as Start
 use Rattle.rules.specs.Start.{begun, startOf, unbegun}
 use Rattle.states.specs.Views.{codeOf}
 use Rattle.starting.specs.Answers.{memoryAfter}
-use Rattle.machine.specs.Answers.{stepsIn}
-use Rattle.host.specs.Lent.{lawful, stateFrom, wordsFrom}
-use Rattle.host.specs.Freezing.{upper}
+use Rattle.resuming.specs.Answers.{stepsIn}
+use Rattle.lent.specs.Lent.{lawful, stateFrom, wordsFrom}
+use Rattle.numbers.specs.Numbers.{upper}
 
 -- 30, or 31 where the table passes
 unfoldable pub unreadNumber : List ℕ → ℕ

@@ -7,48 +7,29 @@ ghost use Prim.Native.Nat.{ℕ};
 ghost use lib.ListN.{length};
 ghost use Rattle.host.specs.Answer.{stateNumber, tableNumber};
 ghost use Rattle.rules.specs.Run.{resumes, runs};
-ghost use Rattle.host.specs.Freezing.{HostRestores, HostWrites, numberOf, numberWritten};
+ghost use Rattle.host.specs.Freezing.{HostRestores, HostWrites};
 ghost use Rattle.host.specs.Running.{HostResumes, HostRuns, HostStarts, unreadNumber};
 use lent::WORDS;
 use lent::put_state;
 use lent::state_of;
 use lent::words_ok;
-use machine::answers::number as number_ran;
-use machine::resume;
 use machine::run;
-use snapshot::waking::Answer;
+use numbers::BAD_STATE;
+use numbers::BAD_TABLE;
+use numbers::PASSED;
+use numbers::UPPER;
+use numbers::number_of;
+use numbers::number_written;
+use resuming::answers::number as number_ran;
+use resuming::resume;
 use snapshot::waking::restore_checked;
-use snapshot::writing::Written;
 use snapshot::writing::write_checked;
 use starting::number as number_started;
 use starting::start;
-use states::check::state_ok;
+use states::passing::state_ok;
 use tables::check_table;
 
 pub mod cards;
-pub mod lent;
-
-// The answers: passed, 30, 31, and those of the snapshot, 40 to 45.
-const PASSED: u32 = 0;
-
-const BAD_TABLE: u32 = 30;
-
-const BAD_STATE: u32 = 31;
-
-const BAD_TRAILER: u32 = 40;
-
-const OTHER_PROGRAM: u32 = 41;
-
-const BAD_FROZEN: u32 = 42;
-
-const FRESH_COUNT_OFF: u32 = 43;
-
-const MEMORY_LENGTH_OFF: u32 = 44;
-
-const SHORT_ROOM: u32 = 45;
-
-// A number of 1 in the upper half of an answer.
-pub const UPPER: u64 = 4294967296;
 
 // 0: the table passes its check. 30: it does not. Any words may be asked.
 #[no_mangle]
@@ -167,33 +148,6 @@ pub extern "C" fn torzimlak_resume(
         put_state(state, s);
     }
     n
-}
-
-// The number of an answer of restore.
-fn number_of(a: Answer) -> u32
-    ensures { λ r. ⌜ r ≡ numberOf a ⌝ }
-{
-    match a {
-        Answer::Woken => PASSED,
-        Answer::BadTable => BAD_TABLE,
-        Answer::BadTrailer => BAD_TRAILER,
-        Answer::OtherProgram => OTHER_PROGRAM,
-        Answer::BadFrozen => BAD_FROZEN,
-        Answer::FreshCountOff => FRESH_COUNT_OFF,
-        Answer::MemoryLengthOff => MEMORY_LENGTH_OFF,
-    }
-}
-
-// The number and the length of an answer of the writer.
-fn number_written(w: Written) -> u64
-    ensures { λ r. ⌜ r ≡ numberWritten w ⌝ }
-{
-    match w {
-        Written::Filled(len) => len as u64,
-        Written::BadTable => UPPER * BAD_TABLE as u64,
-        Written::BadState => UPPER * BAD_STATE as u64,
-        Written::ShortRoom => UPPER * SHORT_ROOM as u64,
-    }
 }
 
 // Upper half 0, lower half L: the machine's file of L bytes stands at the front of the room. Upper half 30: the table does not pass its

@@ -14,7 +14,7 @@ use bodies::entry::HEADER;
 use bodies::entry::SIZE;
 use bodies::entry::WORKINGS;
 use bodies::entry::index;
-use ops::machine::Machine;
+use ops::constants::Machine;
 
 // Bytes of a word.
 pub const WORD: usize = Machine::CFP_B as usize;

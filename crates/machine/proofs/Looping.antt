@@ -19,7 +19,7 @@ use Rattle.exec_core.specs.Views.{answerBase}
 use Rattle.exec_core.specs.Seen.{Running, linksIn, placeOf, seen, stateBy, stepSeen}
 use Rattle.dispatch.proofs.After as After
 use Rattle.dispatch.proofs.After.{Ends}
-use Rattle.machine.specs.Answers.{outcomeBy}
+use Rattle.resuming.specs.Answers.{outcomeBy}
 use Rattle.machine.specs.Halting.{Halts, counted, haltedAt}
 
 -- before the first step

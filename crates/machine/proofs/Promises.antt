@@ -18,9 +18,9 @@ use Rattle.rules.proofs.Runs.{call-ok}
 use Rattle.rules.proofs.Steps.{parts, sound}
 use Rattle.states.specs.declared.State.{State}
 use Rattle.states.specs.Views.{stateOf}
-use Rattle.machine.specs.Answers.{Report, Resumes, Runs, answerOf, codeAfter, ends, refuses, reportOf}
-use Rattle.machine.specs.declared.resuming.Resumed.{Resumed}
-use Rattle.machine.specs.declared.running.Ran.{Ran}
+use Rattle.resuming.specs.Answers.{Report, Resumes, Runs, answerOf, codeAfter, ends, refuses, reportOf}
+use Rattle.resuming.specs.declared.waiting.Resumed.{Resumed}
+use Rattle.resuming.specs.declared.answers.Ran.{Ran}
 
 abbrev mark : Run.Answer → ℕ
 mark (refused e) = 0

@@ -12,7 +12,7 @@ use Rattle.rules.specs.Run as Run
 use Rattle.rules.specs.State.{State, Link}
 use Rattle.rules.specs.Table.{entryAt}
 use Rattle.exec_core.specs.Seen.{linksIn, placeOf, stateBy}
-use Rattle.machine.specs.Answers.{outcomeBy}
+use Rattle.resuming.specs.Answers.{outcomeBy}
 use Rattle.machine.specs.declared.steps.Halted.{Halted}
 
 -- the steps of a run that took i of them before its last attempt

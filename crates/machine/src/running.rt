@@ -3,14 +3,8 @@ ghost use mathlib.Core.Path.{_≡_};
 ghost use mathlib.Core.Bool.{false};
 ghost use Prim.Native.Nat.{_≤_};
 ghost use Rattle.ops.specs.Machine.{maxBudget};
-ghost use Rattle.machine.specs.Answers.{Runs, refusing};
-ghost use Rattle.machine.specs.Packing.{Passed};
-use super::answers::Answer;
-use super::answers::ending;
-use super::packing::pack;
-use super::packing::settle;
-use super::packing::unpack_links;
-use super::packing::unpack_words;
+ghost use Rattle.resuming.specs.Answers.{Runs};
+ghost use Rattle.resuming.specs.Packing.{Passed};
 use super::steps::steps_taken;
 use super::steps::take_steps;
 use bodies::entry::CONSTANTS;
@@ -18,26 +12,16 @@ use bodies::entry::ENTRY;
 use bodies::entry::HEADER;
 use bodies::entry::index;
 use exec_core::Answer as Code;
-use ops::machine::Machine;
+use ops::constants::Machine;
+use resuming::answers::Answer;
+use resuming::answers::Ran;
+use resuming::answers::ending;
+use resuming::answers::refused;
+use resuming::packing::pack;
+use resuming::packing::settle;
+use resuming::packing::unpack_links;
+use resuming::packing::unpack_words;
 use states::State;
-
-// The answer of a run, the steps that it took, and the state that it leaves beside its memory; a refusal's state is the one that was lent.
-pub struct Ran {
-    pub answer: Answer,
-    pub steps: u32,
-    pub state: State,
-}
-
-// A refusal.
-pub fn refused(answer: Answer, state: State) -> Ran
-    ensures { λ r. ⌜ r ≡ refusing answer state ⌝ }
-{
-    Ran {
-        answer,
-        steps: 0,
-        state,
-    }
-}
 
 // The run of a state that does not wait.
 pub fn run_awake(table: &[u32], memory: &mut [u32], state: State, budget: u32) -> Ran

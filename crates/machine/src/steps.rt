@@ -4,9 +4,9 @@ ghost use Prim.Native.Nat.{_-_, _≤_};
 ghost use Rattle.ops.specs.Machine.{maxBudget};
 ghost use Rattle.exec_core.specs.Seen.{Running};
 ghost use Rattle.machine.specs.Halting.{Halts, counted};
-use super::answers::USED;
 use dispatch::dispatch;
 use exec_core::Answer;
+use resuming::answers::USED;
 
 // Where a run halts: the number of its ending, the offset of the entry that it stands at, and what is left of its budget.
 pub struct Halted {

@@ -1,17 +1,17 @@
 // The eight reference runs through the compiled code, a line for each case [S Reference runs]. Of an operation: its name, the ending, steps,
 // place, WA, WB and IA; of the text: its name, the assembler's number, the words. An operation stands at place 0; it goes on at place 1, and branches to place 2.
-use host::UPPER;
 use host::cards::torzimlak_assemble;
-use host::lent::IA;
-use host::lent::PLACE;
-use host::lent::WA;
-use host::lent::WB;
-use host::lent::WORDS;
 use host::torzimlak_run;
 use host::torzimlak_start;
 use io::print_decimal;
 use io::write_all;
-use ops::machine::Machine;
+use lent::IA;
+use lent::PLACE;
+use lent::WA;
+use lent::WB;
+use lent::WORDS;
+use numbers::UPPER;
+use ops::constants::Machine;
 
 // Words of memory.
 const MEMORY: usize = Machine::MIN_MEMORY;

@@ -3,25 +3,25 @@
 use assembler::MAX_BYTES;
 use assembler::MAX_TABLE;
 use bodies::entry::index;
-use host::UPPER;
 use host::cards::torzimlak_assemble;
-use host::lent::COUNT;
-use host::lent::IA;
-use host::lent::PLACE;
-use host::lent::WA;
-use host::lent::WB;
-use host::lent::WC;
-use host::lent::WORDS;
-use host::lent::XL;
-use host::lent::XR;
-use host::lent::XS;
 use host::torzimlak_run;
 use host::torzimlak_start;
 use io::print_decimal;
 use io::read_full;
 use io::write_all;
+use lent::COUNT;
+use lent::IA;
+use lent::PLACE;
+use lent::WA;
+use lent::WB;
+use lent::WC;
+use lent::WORDS;
+use lent::XL;
+use lent::XR;
+use lent::XS;
 use libc::STDOUT_FILENO;
-use ops::machine::Machine;
+use numbers::UPPER;
+use ops::constants::Machine;
 
 // One byte more than a text may have, so that a longer one is seen to be too long.
 const TEXT: usize = MAX_BYTES + 1;

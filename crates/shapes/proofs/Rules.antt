@@ -14,10 +14,10 @@ use Rattle.ops.specs.Class.{Class, Marker, executes, marks, none, is, classCode
 use Rattle.ops.specs.Format.{noKind}
 use Rattle.rules.specs.Check.{reaches, mayReach, mustReach, globalTarget, isExit, belowExit, belowIff, exitNumberOk, holds, flowRules, markerRules, outside}
 use Rattle.rules.specs.Table.{size, classAt, field, value, declared, procedure, target1, target2, target3, bodyAt, bodyAfter}
-use Rattle.entries.proofs.Belows.{and-true}
-use Rattle.shapes.specs.Known.{targetOf}
-use Rattle.shapes.proofs.Codes.{is-code}
-use Rattle.shapes.proofs.Tests.{and-no, and-yes, and-none, or-no, or-yes}
+use Rattle.table_layout.proofs.Belows.{and-true}
+use Rattle.shape_core.specs.Known.{targetOf}
+use Rattle.shape_core.proofs.Codes.{is-code}
+use Rattle.shape_core.proofs.Tests.{and-no, and-yes, and-none, or-no, or-yes}
 
 module _ (t : List ℕ) (p : ℕ) (b : Bool) where
   pub goes-is : b ≡ reaches t p (p + 1) → reaches t p (suc p) ≡ b

@@ -3,18 +3,18 @@ ghost use mathlib.Core.Path.{_≡_};
 ghost use Prim.Native.Nat.{_≤_, _<_};
 ghost use Rattle.ops.specs.Class.{goes, forks, BRN, JMG, ENT, EXI, PPM, ERR, IFF, ESW, PRC, ENP};
 ghost use Rattle.rules.specs.Check as Check;
-ghost use Rattle.shapes.specs.Known.{Known};
-use crate::exits::is_exit;
-use crate::reach::EXECUTABLE;
-use crate::reach::class_at;
-use crate::reach::is_outside;
-use crate::reach::may_reach;
-use crate::reach::must_reach;
-use crate::reach::target;
-use entries::layout::ENTRY;
-use entries::layout::HEADER;
-use entries::layout::index;
+ghost use Rattle.shape_core.specs.Known.{Known};
 use ops::class;
+use shape_core::exits::is_exit;
+use shape_core::reach::EXECUTABLE;
+use shape_core::reach::class_at;
+use shape_core::reach::is_outside;
+use shape_core::reach::may_reach;
+use shape_core::reach::must_reach;
+use shape_core::reach::target;
+use table_layout::ENTRY;
+use table_layout::HEADER;
+use table_layout::index;
 
 // The card above is an exit card or a JSR.
 fn below_exit(table: &[u32], classes: &[u32], body: &[u32], n: usize, p: usize) -> bool

@@ -3,17 +3,17 @@ ghost use mathlib.Core.Path.{_≡_};
 ghost use Prim.Native.Nat.{_≤_, _<_};
 ghost use Rattle.ops.specs.Class.{goes, forks, BRN, JMG, ENT, EXI, PPM, ERR, IFF, ESW, PRC, ENP};
 ghost use Rattle.rules.specs.Check as Check;
-ghost use Rattle.shapes.specs.Known.{Known};
-use crate::reach::global_target;
-use crate::reach::is_outside;
-use crate::reach::may_reach;
-use crate::reach::must_reach;
-use crate::reach::reaches;
-use crate::reach::target;
-use entries::layout::ENTRY;
-use entries::layout::HEADER;
-use entries::layout::index;
+ghost use Rattle.shape_core.specs.Known.{Known};
 use ops::format::NO_KIND;
+use shape_core::reach::global_target;
+use shape_core::reach::is_outside;
+use shape_core::reach::may_reach;
+use shape_core::reach::must_reach;
+use shape_core::reach::reaches;
+use shape_core::reach::target;
+use table_layout::ENTRY;
+use table_layout::HEADER;
+use table_layout::index;
 
 // An operation that goes on has one right after it in its body that can be arrived at.
 pub fn goes_ok(table: &[u32], classes: &[u32], body: &[u32], n: usize, p: usize) -> bool

@@ -1,6 +1,3 @@
-// The shape rules of a table [S Shape rules]: bodies, lists, and the rules of each class of operation.
+// The shape rules of each class of operations, and of the cards that stand in lists [S Shape rules].
 pub mod cards;
-pub mod exits;
 pub mod flows;
-pub mod reach;
-pub mod switch;

@@ -15,9 +15,9 @@ use Rattle.rules.specs.Snapshot.{fileLength, fileOf, filled, unwritten, writeOf
 use Rattle.rules.proofs.Files.{length-fileOf}
 use Rattle.states.proofs.Admits.{skip, stop}
 use Rattle.snapshot.specs.Answers.{Writes}
-use Rattle.snapshot.specs.Buffers.{put}
+use Rattle.snap_core.specs.Buffers.{put}
 use Rattle.snapshot.specs.declared.writing.Written.the-variants.{BadState, BadTable, Filled, ShortRoom}
-use Rattle.snapshot.proofs.Freshening.{put-front}
+use Rattle.snap_core.proofs.Freshening.{put-front}
 
 -- a choice by its test
 taken : {A : Type 0} (b : Bool) (x y : A) → b ≡ true → if b x y ≡ x

@@ -1,8 +1,3 @@
-pub mod Puts
-pub mod Trailers
-pub mod Reading
-pub mod Tables
-pub mod Freshening
 pub mod Machines
 pub mod Wakings
 pub mod Writings

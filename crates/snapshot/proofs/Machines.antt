@@ -18,7 +18,7 @@ use Rattle.rules.proofs.Files.{state-limits}
 use Rattle.states.specs.declared.State.{State}
 use Rattle.states.specs.Views.{codeOf, stateOf}
 use Rattle.states.proofs.Coded.{code-view, drop-replicate}
-use Rattle.snapshot.proofs.Trailers.{not-ok, trailed}
+use Rattle.snap_core.proofs.Trailers.{not-ok, trailed}
 
 -- the array is full
 pub full-array : (z : List ℕ) → z ≡ replicate 256 0 → length z ≡ 256

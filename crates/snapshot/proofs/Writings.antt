@@ -17,8 +17,8 @@ use Rattle.rules.proofs.Memory.{length-refreshed}
 use Rattle.states.specs.declared.State.{State}
 use Rattle.states.specs.Views.{linksOf, stateOf}
 use Rattle.states.proofs.Front.{links-front, links-length}
-use Rattle.snapshot.specs.Buffers.{put}
-use Rattle.snapshot.proofs.Puts.{put-put}
+use Rattle.snap_core.specs.Buffers.{put}
+use Rattle.snap_core.proofs.Puts.{put-put}
 
 -- the sizes of a state that passes
 pub record Measured (t mem : List ℕ) (s : State) : Type 0 where

@@ -12,11 +12,7 @@ use waking::restore_checked;
 use writing::Written;
 use writing::write_checked;
 
-pub mod copy;
-pub mod fresh;
 pub mod frozen;
-pub mod layout;
-pub mod trailer;
 pub mod waking;
 pub mod writing;
 

@@ -3,17 +3,17 @@ ghost use mathlib.Core.Path.{_≡_};
 ghost use Rattle.base.specs.Test.{Ok};
 ghost use Rattle.rules.specs.Check.{tableOk};
 ghost use Rattle.snapshot.specs.Answers.{Restores, refusing};
-use super::copy::read_words;
 use super::frozen::frozen_ok;
 use super::frozen::frozen_state;
-use super::layout::index;
-use super::trailer::MEMORY;
-use super::trailer::memory_from;
-use super::trailer::same_program;
-use super::trailer::trailer_ok;
-use super::trailer::trailer_word;
 use loading::fresh_count;
 use loading::supply;
+use snap_core::copy::read_words;
+use snap_core::layout::index;
+use snap_core::trailer::MEMORY;
+use snap_core::trailer::memory_from;
+use snap_core::trailer::same_program;
+use snap_core::trailer::trailer_ok;
+use snap_core::trailer::trailer_word;
 use states::State;
 
 // What restore answers: a machine is woken, or why not, with the numbers 30, 40, 41, 42, 43, 44.

@@ -9,17 +9,17 @@ ghost use Rattle.rules.specs.State.{stateOk};
 ghost use Rattle.rules.specs.Table.{freshCount};
 ghost use Rattle.states.specs.Views.{stateOf};
 ghost use Rattle.snapshot.specs.Answers.{Writes};
-ghost use Rattle.snapshot.specs.Buffers.{put};
-use super::copy::write_words;
-use super::fresh::write_memory;
-use super::layout::file_length;
-use super::layout::index;
+ghost use Rattle.snap_core.specs.Buffers.{put};
 use loading::WORD;
 use loading::fresh_base;
 use loading::fresh_count;
+use snap_core::copy::write_words;
+use snap_core::fresh::write_memory;
+use snap_core::layout::file_length;
+use snap_core::layout::index;
 use states::State;
 use states::bit;
-use states::check::state_ok;
+use states::passing::state_ok;
 
 // What the writer answers: the length L of the file, or why there is none, with the numbers 30, 31, 45.
 pub enum Written {

@@ -5,7 +5,7 @@ ghost use Rattle.starting.specs.Answers.{Starts, numberOf, refusing, ver
 use loading::fresh_count;
 use loading::load;
 use states::State;
-use states::check::memory_fits;
+use states::passing::memory_fits;
 use tables::check_table;
 
 // What a start answers: the program has begun, or why not, with the numbers 0, 30, 10, 43.

@@ -6,7 +6,7 @@ ghost use lib.ListN.{length};
 ghost use Rattle.states.specs.Admit.{admitted, verdictOf};
 ghost use Rattle.states.specs.Views.{stateOf};
 use super::State;
-use super::check::state_ok;
+use super::passing::state_ok;
 use tables::check_table;
 
 // What the checks find: both pass, or the first that fails.

@@ -9,12 +9,12 @@ ghost use Rattle.rules.specs.State.{memoryFits};
 ghost use Rattle.states.specs.Views.{blank, freshOf};
 use bodies::entry::CONSTANTS;
 use bodies::entry::WORKINGS;
-use ops::machine::Machine;
+use ops::constants::Machine;
 
 pub mod admit;
 pub mod calls;
 pub mod chain;
-pub mod check;
+pub mod passing;
 
 // The state beside its memory: the registers, IA's 32 bits, the overflow flag, the place, whether it waits at the JSR of an EXP,
 // how many links are open, and the links' places, oldest first. Links from count on are not looked at.

@@ -24,7 +24,7 @@ use Rattle.rules.specs.Check.{among, registerOk, valueOk, operandOk, thirdOk, f
 use Rattle.rules.specs.Table.{size, field, classAt, callee, declared, executable, slot, target1, target2, target3}
 use Rattle.rules.proofs.Exits.{reaches-executable}
 use Rattle.rules.proofs.Facts.{rule-when, rules-at}
-use Rattle.entries.specs.Laid.{Laid}
+use Rattle.table_layout.specs.Laid.{Laid}
 use Rattle.bodies.proofs.Places.{arrives-inside, class-of}
 use Rattle.tables.proofs.Passes.{laid-of, laid-long}
 

@@ -11,15 +11,15 @@ use Rattle.base.proofs.Bool.{and-l, and-r, ok-eq, ok-le, test-true, true-ok}
 use Rattle.ops.specs.Class.{Class, Flow, Marker, executes, marks, none, classCode, goes, forks, BRN, JMG, BRI, BSW, ENT, RTN, JSR, EXI, SSS, ERB, CHK, PPM, ERR, IFF, ESW, PRC, ENP}
 use Rattle.rules.specs.Check.{holds, classRules, placeRules, rulesHold, layoutOk, limitsOk, tableOk}
 use Rattle.rules.specs.Table.{classAt, size, tableLength}
-use Rattle.entries.specs.Below.{below}
+use Rattle.table_layout.specs.Below.{below}
 use Rattle.entries.specs.Coded.{entryOk}
-use Rattle.entries.specs.Laid.{Laid}
+use Rattle.table_layout.specs.Laid.{Laid}
 use Rattle.entries.specs.Classes.{ClassesOf}
-use Rattle.entries.proofs.Sizes.{limited, laid}
+use Rattle.table_layout.proofs.Sizes.{limited, laid}
 use Rattle.bodies.specs.Bodies.{Entries, Filled}
-use Rattle.shapes.specs.Known.{Known}
-use Rattle.shapes.proofs.Codes.{code-same}
-use Rattle.shapes.proofs.Tests.{and-no, and-yes}
+use Rattle.shape_core.specs.Known.{Known}
+use Rattle.shape_core.proofs.Codes.{code-same}
+use Rattle.shape_core.proofs.Tests.{and-no, and-yes}
 use Rattle.tables.specs.Shape.{shapeOk}
 
 -- the rules of the class whose number a place has

@@ -6,16 +6,16 @@ ghost use lib.ListN.{length};
 ghost use Rattle.base.specs.Test.{_or_};
 ghost use Rattle.rules.specs.Check as Check;
 ghost use Rattle.rules.specs.Table.{classAt};
-ghost use Rattle.entries.specs.Below.{below};
-ghost use Rattle.shapes.specs.Known.{Known};
+ghost use Rattle.table_layout.specs.Below.{below};
+ghost use Rattle.shape_core.specs.Known.{Known};
 ghost use Rattle.tables.specs.Shape.{shapeOk};
-use entries::layout::index;
 use ops::class;
+use shape_core::exits;
+use shape_core::reach;
+use shape_switch::switch;
 use shapes::cards;
-use shapes::exits;
 use shapes::flows;
-use shapes::reach;
-use shapes::switch;
+use table_layout::index;
 
 // The rules of the place p by its class.
 pub fn class_ok(table: &[u32], classes: &[u32], body: &[u32], n: usize, p: usize) -> bool

@@ -3,8 +3,8 @@ ghost use mathlib.Core.Path.{_≡_};
 ghost use Rattle.rules.specs.Check.{tableOk};
 use bodies::body::bodies;
 use entries::fields::fields_ok;
-use entries::layout::index;
-use entries::layout::layout_ok;
+use table_layout::index;
+use table_layout::layout_ok;
 
 pub mod judge;
 
@@ -15,7 +15,7 @@ pub fn check_table(table: &[u32]) -> bool
     if !layout_ok(table) {
         return false;
     }
-    let list = ops::table::rows();
+    let list = op_table::rows();
     let mut classes = [0u32; 1025];
     if !fields_ok(table, &list, &mut classes) {
         return false;

@@ -8,8 +8,8 @@ use console::word::Word;
 use console::word::word_in;
 use loading::FRESH;
 use loading::WORD;
-use ops::machine::Machine;
-use snapshot::copy::read_words;
+use ops::constants::Machine;
+use snap_core::copy::read_words;
 
 // Bytes for all fresh words that a program can have.
 const CHANCE: usize = WORD * Machine::MAX_FRESH;

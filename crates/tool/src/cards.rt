@@ -10,12 +10,12 @@ use console::files::write_file;
 use console::page::put;
 use console::page::put_number;
 use console::page::show;
-use host::UPPER;
 use host::cards::torzimlak_assemble;
 use host::torzimlak_check_table;
 use loading::WORD;
-use snapshot::copy::read_words;
-use snapshot::copy::write_words;
+use numbers::UPPER;
+use snap_core::copy::read_words;
+use snap_core::copy::write_words;
 
 // One byte more than cards may have, so that a longer text is seen to be too long by the assembler.
 const TEXT: usize = MAX_BYTES + 1;

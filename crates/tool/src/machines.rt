@@ -11,18 +11,18 @@ use console::files::write_file;
 use console::page::put;
 use console::page::put_number;
 use console::page::show;
-use host::UPPER;
-use host::lent::WORDS;
 use host::torzimlak_restore;
 use host::torzimlak_resume;
 use host::torzimlak_run;
 use host::torzimlak_start;
 use host::torzimlak_write;
+use lent::WORDS;
 use loading::WORD;
-use ops::machine::Machine;
-use snapshot::layout::TRAILER;
-use snapshot::trailer::MEMORY;
-use snapshot::trailer::trailer_word;
+use numbers::UPPER;
+use ops::constants::Machine;
+use snap_core::layout::TRAILER;
+use snap_core::trailer::MEMORY;
+use snap_core::trailer::trailer_word;
 
 // The build number of every snapshot, the argument of every start, and the answer to the EXP that a woken machine waits in: no exit.
 const BUILD: u32 = 1;

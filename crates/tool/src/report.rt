@@ -9,12 +9,12 @@ use bodies::entry::VALUE;
 use bodies::entry::index;
 use console::page::put;
 use console::page::put_number;
-use host::lent::WORDS;
-use host::lent::state_of;
+use lent::WORDS;
+use lent::state_of;
 use loading::FRESH;
 use loading::WORD;
-use ops::machine::Machine;
-use snapshot::copy::write_words;
+use ops::constants::Machine;
+use snap_core::copy::write_words;
 use states::State;
 use states::bit;
 

@@ -8,7 +8,7 @@ use super::machines::freeze_fresh;
 use super::machines::run_fresh;
 use super::machines::wake_file;
 use assembler::MAX_TABLE;
-use ops::machine::Machine;
+use ops::constants::Machine;
 
 // What is done with a program.
 pub enum Task {

@@ -7,7 +7,7 @@ use denote.Ref.{now}
 use Rattle.language.specs.Operand.{missing, operandOf}
 use Rattle.language.specs.Fault.{formsOf}
 use Rattle.asm_types.specs.Views.{cardView, formView, operationView, symbolsIn}
-use Rattle.asm_operands.specs.Read.{formatOf}
+use Rattle.asm_values.specs.Read.{formatOf}
 use Rattle.asm_operands.specs.LineCard.{lineCard}
 use Rattle.asm_outcomes.proofs.Operands.{formats-le, no-form, no-format, with-form}
 use borrow.Author.Needs.{needs}
@@ -15,7 +15,7 @@ use Rattle.asm_outcomes.proofs.outcome_at.Statement.{statement}
 use Rattle.asm_outcomes.proofs.outcome_at.Tie as tie
 use Rattle.asm_outcomes.proofs.outcome_at.Reads as reads
 use Rattle.asm_outcomes.proofs.outcome_at.Lts as lts
-use Rattle.asm_operands.proofs.formats.missing.Reads as missing-reads
+use Rattle.asm_values.proofs.formats.missing.Reads as missing-reads
 use Rattle.asm_operands.proofs.operands.outcome.Reads as outcome-reads
 use Rattle.asm_operations.proofs.formats.format_at.Reads as format-at-reads
 use Rattle.asm_operations.proofs.formats.format_count.Reads as format-count-reads

@@ -12,7 +12,7 @@ use Rattle.assembler.proofs.assemble_short.Lts as lts
 use Rattle.asm_collect.proofs.collect.Reads as collect-reads
 use Rattle.asm_draft.proofs.deck.fill.Reads as fill-reads
 use Rattle.assembler.proofs.finish.finish.Reads as finish-reads
-use Rattle.ops.proofs.table.rows.Reads as rows-reads
+use Rattle.op_table.proofs.rows.Reads as rows-reads
 
 -- src/lib.rt:76:16
 rows-requires : tie.Need-rows-requires

@@ -2,15 +2,15 @@
 -- Assumes nothing.
 use Rattle.states.proofs.Admits.{table-passed}
 use Rattle.host.proofs.Answers.{words-no-table, words-no-words, words-granted, words-no-state}
-use Rattle.host.proofs.Links.{lawful-enough}
+use Rattle.lent.proofs.Links.{lawful-enough}
 use borrow.Author.Needs.{needs}
 use Rattle.host.proofs.torzimlak_check_state.Statement.{statement}
 use Rattle.host.proofs.torzimlak_check_state.Tie as tie
 use Rattle.host.proofs.torzimlak_check_state.Reads as reads
 use Rattle.host.proofs.torzimlak_check_state.Lts as lts
-use Rattle.host.proofs.lent.state_of.Reads as state-of-reads
-use Rattle.host.proofs.lent.words_ok.Reads as words-ok-reads
-use Rattle.states.proofs.check.state_ok.Reads as state-ok-reads
+use Rattle.lent.proofs.state_of.Reads as state-of-reads
+use Rattle.lent.proofs.words_ok.Reads as words-ok-reads
+use Rattle.states.proofs.passing.state_ok.Reads as state-ok-reads
 use Rattle.tables.proofs.check_table.Reads as check-table-reads
 
 -- src/lib.rt:38:9

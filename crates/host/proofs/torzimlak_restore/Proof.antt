@@ -9,8 +9,8 @@ use Rattle.host.proofs.torzimlak_restore.Statement.{statement}
 use Rattle.host.proofs.torzimlak_restore.Tie as tie
 use Rattle.host.proofs.torzimlak_restore.Reads as reads
 use Rattle.host.proofs.torzimlak_restore.Lts as lts
-use Rattle.host.proofs.lent.put_state.Reads as put-state-reads
-use Rattle.host.proofs.number_of.Reads as number-of-reads
+use Rattle.lent.proofs.put_state.Reads as put-state-reads
+use Rattle.numbers.proofs.number_of.Reads as number-of-reads
 use Rattle.snapshot.proofs.waking.restore_checked.Reads as restore-checked-reads
 use Rattle.tables.proofs.check_table.Reads as check-table-reads
 

@@ -5,7 +5,7 @@ use Rattle.host.proofs.torzimlak_start.Statement.{statement}
 use Rattle.host.proofs.torzimlak_start.Tie as tie
 use Rattle.host.proofs.torzimlak_start.Reads as reads
 use Rattle.host.proofs.torzimlak_start.Lts as lts
-use Rattle.host.proofs.lent.put_state.Reads as put-state-reads
+use Rattle.lent.proofs.put_state.Reads as put-state-reads
 use Rattle.host.proofs.unread.Reads as unread-reads
 use Rattle.starting.proofs.number.Reads as number-reads
 use Rattle.starting.proofs.start.Reads as start-reads

@@ -4,15 +4,15 @@ use mathlib.Core.Path.{sym, _∙_}
 use borrow.Author.Tests.{not-true, not-false}
 use Rattle.states.proofs.Admits.{table-passed}
 use Rattle.host.proofs.Freezes.{host-unwritten-table, host-unwritten-words, host-written}
-use Rattle.host.proofs.Links.{lawful-enough}
+use Rattle.lent.proofs.Links.{lawful-enough}
 use borrow.Author.Needs.{needs}
 use Rattle.host.proofs.torzimlak_write.Statement.{statement}
 use Rattle.host.proofs.torzimlak_write.Tie as tie
 use Rattle.host.proofs.torzimlak_write.Reads as reads
 use Rattle.host.proofs.torzimlak_write.Lts as lts
-use Rattle.host.proofs.lent.state_of.Reads as state-of-reads
-use Rattle.host.proofs.lent.words_ok.Reads as words-ok-reads
-use Rattle.host.proofs.number_written.Reads as number-written-reads
+use Rattle.lent.proofs.state_of.Reads as state-of-reads
+use Rattle.lent.proofs.words_ok.Reads as words-ok-reads
+use Rattle.numbers.proofs.number_written.Reads as number-written-reads
 use Rattle.snapshot.proofs.writing.write_checked.Reads as write-checked-reads
 use Rattle.tables.proofs.check_table.Reads as check-table-reads
 

@@ -3,8 +3,9 @@
 use mathlib.Core.Path.{_≡_, refl}
 use lib.ListN.{length}
 use Rattle.rules.specs.Number.{badState, badTable}
-use Rattle.machine.specs.declared.answers.Answer.the-variants.{BadState, BadTable}
-use Rattle.machine.proofs.Promised.{passed-by, refused-by, run-refused}
+use Rattle.resuming.specs.declared.answers.Answer.the-variants.{BadState, BadTable}
+use Rattle.resuming.proofs.Granted.{passed-by, refused-by}
+use Rattle.machine.proofs.Promised.{run-refused}
 use borrow.Author.Needs.{needs}
 use Rattle.machine.proofs.run.Statement.{statement}
 use Rattle.machine.proofs.run.Tie as tie

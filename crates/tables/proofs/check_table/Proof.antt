@@ -1,7 +1,7 @@
 -- `tables::check_table` meets its contract: layout, fields and shapes are the parts of the check, and each pass leaves what the next one asks.
 -- Assumes nothing.
 use Rattle.tables.proofs.Passes.{laid-of, laid-few, laid-long, check-layout, check-fields, check-shapes, known-of, entries-of}
-use Rattle.entries.specs.Laid.{Laid}
+use Rattle.table_layout.specs.Laid.{Laid}
 use Rattle.rules.specs.Check.{layoutOk}
 use borrow.Author.Tests.{not-true, not-false}
 use lib.ListN.{length, getD}
@@ -15,9 +15,9 @@ use Rattle.tables.proofs.check_table.Tie as tie
 use Rattle.tables.proofs.check_table.Reads as reads
 use Rattle.tables.proofs.check_table.Lts as lts
 use Rattle.entries.proofs.fields.fields_ok.Reads as fields-ok-reads
-use Rattle.entries.proofs.layout.index.Reads as index-reads
-use Rattle.entries.proofs.layout.layout_ok.Reads as layout-ok-reads
-use Rattle.ops.proofs.table.rows.Reads as rows-reads
+use Rattle.table_layout.proofs.index.Reads as index-reads
+use Rattle.table_layout.proofs.layout_ok.Reads as layout-ok-reads
+use Rattle.op_table.proofs.rows.Reads as rows-reads
 use Rattle.bodies.proofs.body.bodies.Reads as bodies-reads
 use Rattle.tables.proofs.judge.shapes_ok.Reads as shapes-ok-reads
 

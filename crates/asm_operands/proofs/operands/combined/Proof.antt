@@ -12,7 +12,7 @@ use Rattle.asm_operands.proofs.operands.combined.Tie as tie
 use Rattle.asm_operands.proofs.operands.combined.Reads as reads
 use Rattle.asm_operands.proofs.operands.combined.Lts as lts
 use Rattle.asm_operands.proofs.operands.value_of.Reads as value-of-reads
-use Rattle.asm_operands.proofs.values.value_within.Reads as value-within-reads
+use Rattle.asm_values.proofs.values.value_within.Reads as value-within-reads
 
 add-value-within : tie.Need-add-value-within
 add-value-within c = search needs

@@ -8,8 +8,8 @@ use Rattle.asm_operands.proofs.operands.indexed_by.Statement.{statement
 use Rattle.asm_operands.proofs.operands.indexed_by.Tie as tie
 use Rattle.asm_operands.proofs.operands.indexed_by.Reads as reads
 use Rattle.asm_operands.proofs.operands.indexed_by.Lts as lts
-use Rattle.asm_operands.proofs.values.displaced_by.Reads as displaced-by-reads
-use Rattle.asm_operands.proofs.values.displaced_words.Reads as displaced-words-reads
+use Rattle.asm_values.proofs.values.displaced_by.Reads as displaced-by-reads
+use Rattle.asm_values.proofs.values.displaced_words.Reads as displaced-words-reads
 use Rattle.asm_symbols.proofs.meanings.meaning.Reads as meaning-reads
 
 enum-known-t : tie.Need-enum-known-t

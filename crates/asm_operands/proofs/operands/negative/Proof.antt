@@ -11,7 +11,7 @@ use Rattle.asm_operands.proofs.operands.negative.Tie as tie
 use Rattle.asm_operands.proofs.operands.negative.Reads as reads
 use Rattle.asm_operands.proofs.operands.negative.Lts as lts
 use Rattle.asm_operands.proofs.operands.value_of.Reads as value-of-reads
-use Rattle.asm_operands.proofs.values.narrow.Reads as narrow-reads
+use Rattle.asm_values.proofs.values.narrow.Reads as narrow-reads
 use Rattle.words.proofs.sub.Reads as sub-reads
 
 cast-if1 : tie.Need-cast-if1

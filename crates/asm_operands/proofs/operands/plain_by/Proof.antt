@@ -8,9 +8,9 @@ use Rattle.asm_operands.proofs.operands.plain_by.Statement.{statement}
 use Rattle.asm_operands.proofs.operands.plain_by.Tie as tie
 use Rattle.asm_operands.proofs.operands.plain_by.Reads as reads
 use Rattle.asm_operands.proofs.operands.plain_by.Lts as lts
-use Rattle.asm_operands.proofs.formats.largest.Reads as largest-reads
-use Rattle.asm_operands.proofs.values.symbol_by.Reads as symbol-by-reads
-use Rattle.asm_operands.proofs.values.value_within.Reads as value-within-reads
+use Rattle.asm_values.proofs.formats.largest.Reads as largest-reads
+use Rattle.asm_values.proofs.values.symbol_by.Reads as symbol-by-reads
+use Rattle.asm_values.proofs.values.value_within.Reads as value-within-reads
 use Rattle.asm_symbols.proofs.meanings.meaning.Reads as meaning-reads
 
 enum-known-t : tie.Need-enum-known-t

@@ -14,7 +14,7 @@ use Rattle.asm_operands.proofs.operands.resolved.Statement.{statement}
 use Rattle.asm_operands.proofs.operands.resolved.Tie as tie
 use Rattle.asm_operands.proofs.operands.resolved.Reads as reads
 use Rattle.asm_operands.proofs.operands.resolved.Lts as lts
-use Rattle.asm_operands.proofs.formats.register_kind.Reads as register-kind-reads
+use Rattle.asm_values.proofs.formats.register_kind.Reads as register-kind-reads
 use Rattle.asm_operands.proofs.operands.gives_register.Reads as gives-register-reads
 use Rattle.asm_operands.proofs.operands.indexed_by.Reads as indexed-by-reads
 use Rattle.asm_operands.proofs.operands.negative.Reads as negative-reads
@@ -22,9 +22,9 @@ use Rattle.asm_operands.proofs.operands.plain_by.Reads as plain-by-read
 use Rattle.asm_operands.proofs.operands.star_by.Reads as star-by-reads
 use Rattle.asm_operands.proofs.operands.terms_by.Reads as terms-by-reads
 use Rattle.asm_operands.proofs.operands.value_of.Reads as value-of-reads
-use Rattle.asm_operands.proofs.values.literal_by.Reads as literal-by-reads
-use Rattle.asm_operands.proofs.values.multiple_by.Reads as multiple-by-reads
-use Rattle.asm_operands.proofs.values.value_within.Reads as value-within-reads
+use Rattle.asm_values.proofs.values.literal_by.Reads as literal-by-reads
+use Rattle.asm_values.proofs.values.multiple_by.Reads as multiple-by-reads
+use Rattle.asm_values.proofs.values.value_within.Reads as value-within-reads
 use Rattle.asm_symbols.proofs.meanings.meaning.Reads as meaning-reads
 
 enum-told : tie.Need-enum-told

@@ -9,10 +9,10 @@ use Rattle.asm_operands.proofs.operands.takes.Statement.{statement}
 use Rattle.asm_operands.proofs.operands.takes.Tie as tie
 use Rattle.asm_operands.proofs.operands.takes.Reads as reads
 use Rattle.asm_operands.proofs.operands.takes.Lts as lts
-use Rattle.asm_operands.proofs.formats.register_kind.Reads as register-kind-reads
-use Rattle.asm_operands.proofs.formats.takes_kind.Reads as takes-kind-reads
-use Rattle.asm_operands.proofs.formats.takes_term.Reads as takes-term-reads
-use Rattle.asm_operands.proofs.formats.takes_x.Reads as takes-x-reads
+use Rattle.asm_values.proofs.formats.register_kind.Reads as register-kind-reads
+use Rattle.asm_values.proofs.formats.takes_kind.Reads as takes-kind-reads
+use Rattle.asm_values.proofs.formats.takes_term.Reads as takes-term-reads
+use Rattle.asm_values.proofs.formats.takes_x.Reads as takes-x-reads
 use Rattle.asm_operands.proofs.operands.is_tag.Reads as is-tag-reads
 
 enum-told : tie.Need-enum-told

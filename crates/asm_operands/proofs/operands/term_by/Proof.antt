@@ -8,8 +8,8 @@ use Rattle.asm_operands.proofs.operands.term_by.Statement.{statement}
 use Rattle.asm_operands.proofs.operands.term_by.Tie as tie
 use Rattle.asm_operands.proofs.operands.term_by.Reads as reads
 use Rattle.asm_operands.proofs.operands.term_by.Lts as lts
-use Rattle.asm_operands.proofs.values.equal_by.Reads as equal-by-reads
-use Rattle.asm_operands.proofs.values.value_within.Reads as value-within-reads
+use Rattle.asm_values.proofs.values.equal_by.Reads as equal-by-reads
+use Rattle.asm_values.proofs.values.value_within.Reads as value-within-reads
 use Rattle.asm_symbols.proofs.meanings.meaning.Reads as meaning-reads
 
 enum-known-t : tie.Need-enum-known-t

@@ -1,7 +1,7 @@
 -- `asm_shapes::faults::bsw_fault` meets its contract: the list is judged before the default.
 -- Assumes nothing.
 use Rattle.asm_shapes.proofs.Smallest.{pair-first, pair-none, pair-second}
-use Rattle.shapes.specs.Counted.{listOk}
+use Rattle.shape_core.specs.Counted.{listOk}
 use Rattle.rules.specs.Number.{badList}
 use borrow.Author.Tests.{not-true, not-false}
 use mathlib.Core.Path.{sym, _∙_}
@@ -10,8 +10,8 @@ use Rattle.asm_shapes.proofs.faults.bsw_fault.Statement.{statement}
 use Rattle.asm_shapes.proofs.faults.bsw_fault.Tie as tie
 use Rattle.asm_shapes.proofs.faults.bsw_fault.Reads as reads
 use Rattle.asm_shapes.proofs.faults.bsw_fault.Lts as lts
-use Rattle.shapes.proofs.switch.default_ok.Reads as default-ok-reads
-use Rattle.shapes.proofs.switch.list_ok.Reads as list-ok-reads
+use Rattle.shape_switch.proofs.switch.default_ok.Reads as default-ok-reads
+use Rattle.shape_switch.proofs.switch.list_ok.Reads as list-ok-reads
 
 -- src/faults.rt:93:9
 list-ok-requires : tie.Need-list-ok-requires

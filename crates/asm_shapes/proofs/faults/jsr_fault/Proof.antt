@@ -8,7 +8,7 @@ use Rattle.asm_shapes.proofs.faults.jsr_fault.Tie as tie
 use Rattle.asm_shapes.proofs.faults.jsr_fault.Reads as reads
 use Rattle.asm_shapes.proofs.faults.jsr_fault.Lts as lts
 use Rattle.asm_shapes.proofs.faults.list_fault.Reads as list-fault-reads
-use Rattle.shapes.proofs.exits.exits_of.Reads as exits-of-reads
+use Rattle.shape_core.proofs.exits.exits_of.Reads as exits-of-reads
 
 -- src/faults.rt:81:9
 exits-of-requires : tie.Need-exits-of-requires

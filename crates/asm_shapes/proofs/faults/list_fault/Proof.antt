@@ -10,9 +10,9 @@ use Rattle.asm_shapes.proofs.faults.list_fault.Statement.{statement}
 use Rattle.asm_shapes.proofs.faults.list_fault.Tie as tie
 use Rattle.asm_shapes.proofs.faults.list_fault.Reads as reads
 use Rattle.asm_shapes.proofs.faults.list_fault.Lts as lts
-use Rattle.entries.proofs.layout.index.Reads as index-reads
-use Rattle.shapes.proofs.exits.exit_list.Reads as exit-list-reads
-use Rattle.shapes.proofs.reach.reaches.Reads as reaches-reads
+use Rattle.table_layout.proofs.index.Reads as index-reads
+use Rattle.shape_core.proofs.exits.exit_list.Reads as exit-list-reads
+use Rattle.shape_core.proofs.reach.reaches.Reads as reaches-reads
 
 -- src/faults.rt:67:51
 add-exit-list : tie.Need-add-exit-list

@@ -1,7 +1,7 @@
 -- `asm_shapes::loose::count_known` meets its contract: each return rewrites with the tests that led there.
 -- Assumes nothing.
 use Rattle.asm_shapes.proofs.ByClass.{known-kind, known-other, known-procedure, known-unnamed}
-use Rattle.shapes.proofs.Lists.{prc-inside}
+use Rattle.shape_core.proofs.Lists.{prc-inside}
 use native.Mathlib.Omega.{arith}
 use mathlib.Core.Path.{refl}
 use borrow.Author.Needs.{needs}
@@ -9,8 +9,8 @@ use Rattle.asm_shapes.proofs.loose.count_known.Statement.{statement}
 use Rattle.asm_shapes.proofs.loose.count_known.Tie as tie
 use Rattle.asm_shapes.proofs.loose.count_known.Reads as reads
 use Rattle.asm_shapes.proofs.loose.count_known.Lts as lts
-use Rattle.entries.proofs.layout.index.Reads as index-reads
-use Rattle.shapes.proofs.reach.class_at.Reads as class-at-reads
+use Rattle.table_layout.proofs.index.Reads as index-reads
+use Rattle.shape_core.proofs.reach.class_at.Reads as class-at-reads
 
 -- src/loose.rt:30:8
 mul-if1 : tie.Need-mul-if1

@@ -17,7 +17,7 @@ use Rattle.assembler.proofs.finish.is_within.Reads as is-within-reads
 use Rattle.assembler.proofs.judge.fault_in.Reads as fault-in-reads
 use Rattle.assembler.proofs.judge.judge.Reads as judge-reads
 use Rattle.bodies.proofs.body.bodies.Reads as bodies-reads
-use Rattle.entries.proofs.layout.index.Reads as index-reads
+use Rattle.table_layout.proofs.index.Reads as index-reads
 
 -- src/finish.rt:90:9
 index-requires : tie.Need-index-requires

@@ -1,6 +1,6 @@
 -- `assembler::finish::is_complete` meets its contract: three tests in their order.
 -- Assumes nothing.
-use Rattle.shapes.proofs.Tests.{and-no, and-yes}
+use Rattle.shape_core.proofs.Tests.{and-no, and-yes}
 use borrow.Author.Tests.{not-false, not-true}
 use mathlib.Core.Path.{sym, _∙_}
 use borrow.Author.Needs.{needs}
@@ -9,7 +9,7 @@ use Rattle.assembler.proofs.finish.is_complete.Tie as tie
 use Rattle.assembler.proofs.finish.is_complete.Reads as reads
 use Rattle.assembler.proofs.finish.is_complete.Lts as lts
 use Rattle.asm_symbols.proofs.meanings.all_placed.Reads as all-placed-reads
-use Rattle.entries.proofs.layout.sections_ok.Reads as sections-ok-reads
+use Rattle.table_layout.proofs.sections_ok.Reads as sections-ok-reads
 
 -- src/finish.rt:38:9
 returns : tie.Need-returns

@@ -3,7 +3,7 @@ use Prim.Native.Nat.{ℕ, _<_, _≤_}
 -- `assembler::finish::is_within` meets its contract: four tests in their order.
 -- Assumes nothing.
 use Rattle.language.specs.Answer.{isWithin}
-use Rattle.shapes.proofs.Tests.{and-no, and-yes}
+use Rattle.shape_core.proofs.Tests.{and-no, and-yes}
 use borrow.Author.Tests.{le-leb, lt-leb}
 use native.Mathlib.Omega.{arith}
 use mathlib.Core.Path.{ap, sym, _∙_}
@@ -12,8 +12,8 @@ use Rattle.assembler.proofs.finish.is_within.Statement.{statement}
 use Rattle.assembler.proofs.finish.is_within.Tie as tie
 use Rattle.assembler.proofs.finish.is_within.Reads as reads
 use Rattle.assembler.proofs.finish.is_within.Lts as lts
-use Rattle.entries.proofs.layout.index.Reads as index-reads
-use Rattle.entries.proofs.layout.sum.Reads as sum-reads
+use Rattle.table_layout.proofs.index.Reads as index-reads
+use Rattle.table_layout.proofs.sum.Reads as sum-reads
 
 -- src/finish.rt:50:30
 index-requires : tie.Need-index-requires

@@ -1,7 +1,7 @@
 -- `assembler::shape::is_judged` meets its contract: all operands are given, and the count is known.
 -- Assumes nothing.
 use Rattle.language.specs.Fault.{isJudged}
-use Rattle.shapes.proofs.Tests.{and-no, and-yes}
+use Rattle.shape_core.proofs.Tests.{and-no, and-yes}
 use borrow.Author.Tests.{not-false, not-true}
 use native.Mathlib.Omega.{arith}
 use mathlib.Core.Path.{sym, _∙_}

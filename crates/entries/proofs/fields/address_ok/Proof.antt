@@ -12,8 +12,8 @@ use Rattle.entries.proofs.fields.address_ok.Statement.{statement}
 use Rattle.entries.proofs.fields.address_ok.Tie as tie
 use Rattle.entries.proofs.fields.address_ok.Reads as reads
 use Rattle.entries.proofs.fields.address_ok.Lts as lts
-use Rattle.entries.proofs.layout.index.Reads as index-reads
-use Rattle.entries.proofs.layout.sum.Reads as sum-reads
+use Rattle.table_layout.proofs.index.Reads as index-reads
+use Rattle.table_layout.proofs.sum.Reads as sum-reads
 
 -- src/fields.rt:89:16
 shared-slice-read-sum : tie.Need-shared-slice-read-sum

@@ -2,9 +2,9 @@
 -- Assumes nothing.
 use Rattle.entries.proofs.Formats.{row-inside, entry-cells, class-cells, entry-unknown, class-past}
 use Rattle.entries.proofs.Filled.{filled-last, filled-more}
-use Rattle.entries.proofs.Belows.{below-zero, below-more, below-fails}
+use Rattle.table_layout.proofs.Belows.{below-zero, below-more, below-fails}
 use Rattle.entries.specs.Coded.{entryOk}
-use Rattle.entries.specs.Below.{below}
+use Rattle.table_layout.specs.Below.{below}
 use Rattle.rules.specs.Table.{classAt}
 use Rattle.ops.proofs.Rows.{table-row}
 use Rattle.ops.specs.Class.{classCode}
@@ -22,7 +22,7 @@ use Rattle.entries.proofs.fields.fields_ok.Tie as tie
 use Rattle.entries.proofs.fields.fields_ok.Reads as reads
 use Rattle.entries.proofs.fields.fields_ok.Lts as lts
 use Rattle.entries.proofs.fields.entry_ok.Reads as entry-ok-reads
-use Rattle.entries.proofs.layout.index.Reads as index-reads
+use Rattle.table_layout.proofs.index.Reads as index-reads
 use Rattle.ops.proofs.lookup.find_number.Reads as find-number-reads
 
 abbrev Inv-loop : tie.InvT-loop

@@ -1,6 +1,6 @@
 -- `entries::fields::is_apart` meets its contract: each return rewrites with the tests that led there.
 -- Assumes nothing.
-use Rattle.entries.proofs.Belows.{and-false, and-true}
+use Rattle.table_layout.proofs.Belows.{and-false, and-true}
 use Rattle.rules.specs.Check.{apart}
 use mathlib.Core.Bool.{Bool, true, false, not}
 use Rattle.base.specs.Test.{_and_, _or_, if}

@@ -6,7 +6,8 @@ use native.Mathlib.Omega.{arith}
 use Rattle.rules.specs.Table.{constants, entryAt}
 use Rattle.bodies.proofs.Places.{entries-of}
 use Rattle.exec_core.specs.Seen.{placeOf}
-use Rattle.machine.proofs.Promised.{few-open, unpacked-runs, halted-answer, halted-packs, run-ended}
+use Rattle.resuming.proofs.Granted.{few-open}
+use Rattle.machine.proofs.Promised.{unpacked-runs, halted-answer, halted-packs, run-ended}
 use borrow.Author.Needs.{needs}
 use Rattle.machine.proofs.running.run_awake.Statement.{statement}
 use Rattle.machine.proofs.running.run_awake.Tie as tie

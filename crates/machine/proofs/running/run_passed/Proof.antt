@@ -3,8 +3,9 @@
 use mathlib.Core.Path.{refl}
 use Rattle.rules.specs.Number.{overBudget, waits}
 use Rattle.states.specs.Views.{stateOf}
-use Rattle.machine.specs.declared.answers.Answer.the-variants.{OverBudget, Waits}
-use Rattle.machine.proofs.Promised.{few-open, over-budget, run-ended, run-refused, run-waits}
+use Rattle.resuming.specs.declared.answers.Answer.the-variants.{OverBudget, Waits}
+use Rattle.resuming.proofs.Granted.{few-open}
+use Rattle.machine.proofs.Promised.{over-budget, run-ended, run-refused, run-waits}
 use borrow.Author.Needs.{needs}
 use Rattle.machine.proofs.running.run_passed.Statement.{statement}
 use Rattle.machine.proofs.running.run_passed.Tie as tie

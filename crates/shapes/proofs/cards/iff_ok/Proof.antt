@@ -1,9 +1,9 @@
 -- `shapes::cards::iff_ok` meets its contract: each return rewrites with the tests that led there.
 -- Assumes nothing.
-use Rattle.shapes.proofs.Tests.{and-no, and-yes, or-no, or-yes, not-no, not-yes}
+use Rattle.shape_core.proofs.Tests.{and-no, and-yes, or-no, or-yes, not-no, not-yes}
 use Rattle.shapes.proofs.Rules.{may1, must2, exit-top, exit-under, iff-top, iff-under}
-use Rattle.shapes.proofs.Codes.{is-code, executable-code}
-use Rattle.entries.proofs.Belows.{and-true}
+use Rattle.shape_core.proofs.Codes.{is-code, executable-code}
+use Rattle.table_layout.proofs.Belows.{and-true}
 use Rattle.rules.specs.Table.{classAt, bodyAt, size}
 use Rattle.rules.specs.Check.{outside}
 use Rattle.ops.specs.Class.{executes, marks, JSR}
@@ -19,8 +19,8 @@ use Rattle.shapes.proofs.cards.iff_ok.Tie as tie
 use Rattle.shapes.proofs.cards.iff_ok.Reads as reads
 use Rattle.shapes.proofs.cards.iff_ok.Lts as lts
 use Rattle.shapes.proofs.cards.below_iff.Reads as below-iff-reads
-use Rattle.shapes.proofs.reach.must_reach.Reads as must-reach-reads
-use Rattle.shapes.proofs.reach.target.Reads as target-reads
+use Rattle.shape_core.proofs.reach.must_reach.Reads as must-reach-reads
+use Rattle.shape_core.proofs.reach.target.Reads as target-reads
 
 -- src/cards.rt:66:9
 below-iff-requires : tie.Need-below-iff-requires

@@ -2,10 +2,10 @@
 -- Assumes nothing.
 use Rattle.shapes.proofs.Rules.{prc-closed}
 use Prim.Native.Nat.{_+_}
-use Rattle.shapes.proofs.Tests.{and-no, and-yes, or-no, or-yes, not-no, not-yes}
+use Rattle.shape_core.proofs.Tests.{and-no, and-yes, or-no, or-yes, not-no, not-yes}
 use Rattle.shapes.proofs.Rules.{may1, must2, exit-top, exit-under, iff-top, iff-under}
-use Rattle.shapes.proofs.Codes.{is-code, executable-code}
-use Rattle.entries.proofs.Belows.{and-true}
+use Rattle.shape_core.proofs.Codes.{is-code, executable-code}
+use Rattle.table_layout.proofs.Belows.{and-true}
 use Rattle.rules.specs.Table.{classAt, bodyAt, size}
 use Rattle.rules.specs.Check.{outside}
 use Rattle.ops.specs.Class.{executes, marks, JSR}
@@ -20,8 +20,8 @@ use Rattle.shapes.proofs.cards.prc_ok.Statement.{statement}
 use Rattle.shapes.proofs.cards.prc_ok.Tie as tie
 use Rattle.shapes.proofs.cards.prc_ok.Reads as reads
 use Rattle.shapes.proofs.cards.prc_ok.Lts as lts
-use Rattle.entries.proofs.layout.index.Reads as index-reads
-use Rattle.shapes.proofs.reach.is_outside.Reads as is-outside-reads
+use Rattle.table_layout.proofs.index.Reads as index-reads
+use Rattle.shape_core.proofs.reach.is_outside.Reads as is-outside-reads
 
 -- src/cards.rt:86:9
 is-outside-requires : tie.Need-is-outside-requires

@@ -1,8 +1,8 @@
 -- `shapes::flows::exi_ok` meets its contract: each return rewrites with the tests that led there.
 -- Assumes nothing.
-use Rattle.shapes.proofs.Tests.{and-no, and-yes, or-no, or-yes}
+use Rattle.shape_core.proofs.Tests.{and-no, and-yes, or-no, or-yes}
 use Rattle.shapes.proofs.Rules.{goes-is, may1, may2, may3, must1, must2, global1, body-below, exi-outside, exi-inside}
-use Rattle.entries.proofs.Belows.{and-true}
+use Rattle.table_layout.proofs.Belows.{and-true}
 use Rattle.base.specs.Test.{_and_, _or_, if}
 use borrow.Author.Tests.{eq-eqb, ne-eqb, lt-ltb, le-ltb, le-leb, lt-leb, not-true, not-false}
 use native.Mathlib.Omega.{arith}
@@ -13,7 +13,7 @@ use Rattle.shapes.proofs.flows.exi_ok.Statement.{statement}
 use Rattle.shapes.proofs.flows.exi_ok.Tie as tie
 use Rattle.shapes.proofs.flows.exi_ok.Reads as reads
 use Rattle.shapes.proofs.flows.exi_ok.Lts as lts
-use Rattle.entries.proofs.layout.index.Reads as index-reads
+use Rattle.table_layout.proofs.index.Reads as index-reads
 
 -- src/flows.rt:72:19
 mul-index : tie.Need-mul-index

@@ -6,7 +6,7 @@ use native.Mathlib.Omega.{arith}
 use lib.ListN.{length}
 use lib.Seq.{length-take-le}
 use Rattle.rules.specs.Snapshot.{linksIn}
-use Rattle.snapshot.proofs.Trailers.{trailed}
+use Rattle.snap_core.proofs.Trailers.{trailed}
 use Rattle.snapshot.proofs.Machines.{full-array, links-array}
 use borrow.Author.Needs.{needs}
 use Rattle.snapshot.proofs.frozen.frozen_links.Statement.{statement}

@@ -8,7 +8,7 @@ use Rattle.base.proofs.Bool.{true-ok}
 use Rattle.rules.specs.Snapshot.{frozenIn, frozenOk, linksIn, memoryFrom, memoryIn}
 use Rattle.rules.proofs.Bytes.{length-wordsIn}
 use Rattle.rules.proofs.Files.{state-limits}
-use Rattle.snapshot.proofs.Trailers.{and-yes, and-no, trailed}
+use Rattle.snap_core.proofs.Trailers.{and-yes, and-no, trailed}
 use Rattle.snapshot.proofs.Machines.{frozen-checked, frozen-many}
 use borrow.Author.Needs.{needs}
 use Rattle.snapshot.proofs.frozen.frozen_ok.Statement.{statement}

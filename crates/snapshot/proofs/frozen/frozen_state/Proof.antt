@@ -3,7 +3,7 @@
 use native.Mathlib.Omega.{arith}
 use Rattle.rules.specs.Snapshot.{frozenIn}
 use Rattle.rules.proofs.Bytes.{length-wordsIn}
-use Rattle.snapshot.proofs.Trailers.{trailed}
+use Rattle.snap_core.proofs.Trailers.{trailed}
 use Rattle.snapshot.proofs.frozen.frozen_state.Statement.{statement}
 use Rattle.snapshot.proofs.frozen.frozen_state.Tie as tie
 

@@ -7,7 +7,7 @@ use lib.ListN.{length}
 use Rattle.base.proofs.Bool.{test-true, true-ok}
 use Rattle.rules.specs.Snapshot.{memoryIn}
 use Rattle.rules.specs.Start.{refreshed}
-use Rattle.snapshot.proofs.Trailers.{trailed}
+use Rattle.snap_core.proofs.Trailers.{trailed}
 use Rattle.snapshot.proofs.Wakings.{frozen-few, frozen-own, refuses-frozen, refuses-lending, refuses-program, refuses-supply, refuses-trailer, wakes}
 use borrow.Author.Needs.{needs}
 use Rattle.snapshot.proofs.waking.restore_checked.Statement.{statement}

@@ -4,18 +4,18 @@ use mathlib.Core.Path.{_≡_, refl, sym}
 use native.Mathlib.Omega.{arith}
 use lib.ListN.{length}
 use lib.Seq.{length-take-le}
-use Rattle.snapshot.proofs.Tables.{fresh-inside, fresh-part}
+use Rattle.snap_core.proofs.Tables.{fresh-inside, fresh-part}
 use Rattle.snapshot.proofs.Writings.{measured, write-parts}
 use borrow.Author.Needs.{needs}
 use Rattle.snapshot.proofs.writing.write_file.Statement.{statement}
 use Rattle.snapshot.proofs.writing.write_file.Tie as tie
 use Rattle.snapshot.proofs.writing.write_file.Reads as reads
 use Rattle.snapshot.proofs.writing.write_file.Lts as lts
-use Rattle.snapshot.proofs.copy.write_words.Reads as write-words-reads
-use Rattle.snapshot.proofs.fresh.write_memory.Reads as write-memory-reads
+use Rattle.snap_core.proofs.copy.write_words.Reads as write-words-reads
+use Rattle.snap_core.proofs.fresh.write_memory.Reads as write-memory-reads
 use Rattle.loading.proofs.fresh_base.Reads as fresh-base-reads
 use Rattle.loading.proofs.fresh_count.Reads as fresh-count-reads
-use Rattle.snapshot.proofs.layout.index.Reads as index-reads
+use Rattle.snap_core.proofs.layout.index.Reads as index-reads
 use Rattle.snapshot.proofs.writing.trailer_words.Reads as trailer-words-reads
 
 -- the state's array has 256 links

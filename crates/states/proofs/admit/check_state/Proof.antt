@@ -5,7 +5,7 @@ use Rattle.states.proofs.admit.check_state.Statement.{statement}
 use Rattle.states.proofs.admit.check_state.Tie as tie
 use Rattle.states.proofs.admit.check_state.Reads as reads
 use Rattle.states.proofs.admit.check_state.Lts as lts
-use Rattle.states.proofs.check.state_ok.Reads as state-ok-reads
+use Rattle.states.proofs.passing.state_ok.Reads as state-ok-reads
 use Rattle.tables.proofs.check_table.Reads as check-table-reads
 
 check-table-requires : tie.Need-check-table-requires

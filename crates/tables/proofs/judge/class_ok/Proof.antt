@@ -15,14 +15,14 @@ use Rattle.shapes.proofs.cards.esw_ok.Reads as esw-ok-reads
 use Rattle.shapes.proofs.cards.iff_ok.Reads as iff-ok-reads
 use Rattle.shapes.proofs.cards.ppm_ok.Reads as ppm-ok-reads
 use Rattle.shapes.proofs.cards.prc_ok.Reads as prc-ok-reads
-use Rattle.shapes.proofs.exits.jsr_ok.Reads as jsr-ok-reads
+use Rattle.shape_core.proofs.exits.jsr_ok.Reads as jsr-ok-reads
 use Rattle.shapes.proofs.flows.brn_ok.Reads as brn-ok-reads
 use Rattle.shapes.proofs.flows.ent_ok.Reads as ent-ok-reads
 use Rattle.shapes.proofs.flows.exi_ok.Reads as exi-ok-reads
 use Rattle.shapes.proofs.flows.forks_ok.Reads as forks-ok-reads
 use Rattle.shapes.proofs.flows.goes_ok.Reads as goes-ok-reads
 use Rattle.shapes.proofs.flows.jmg_ok.Reads as jmg-ok-reads
-use Rattle.shapes.proofs.switch.bsw_ok.Reads as bsw-ok-reads
+use Rattle.shape_switch.proofs.switch.bsw_ok.Reads as bsw-ok-reads
 
 -- src/judge.rt:25:13
 mul-k : tie.Need-mul-k

@@ -1,7 +1,7 @@
 -- `tables::judge::shape_ok` meets its contract: each return rewrites with the tests that led there.
 -- Assumes nothing.
 use Rattle.tables.specs.Shape.{shapeOk}
-use Rattle.shapes.proofs.Tests.{and-no, and-yes, or-no, or-yes, not-no, not-yes}
+use Rattle.shape_core.proofs.Tests.{and-no, and-yes, or-no, or-yes, not-no, not-yes}
 use Rattle.base.specs.Test.{_and_, _or_, if}
 use borrow.Author.Tests.{eq-eqb, ne-eqb, lt-ltb, le-ltb, le-leb, lt-leb, not-true, not-false}
 use native.Mathlib.Omega.{arith}

@@ -1,6 +1,6 @@
 -- `tables::judge::start_ok` meets its contract: each return rewrites with the tests that led there.
 -- Assumes nothing.
-use Rattle.shapes.proofs.Tests.{and-no, and-yes, or-no, or-yes, not-no, not-yes}
+use Rattle.shape_core.proofs.Tests.{and-no, and-yes, or-no, or-yes, not-no, not-yes}
 use Rattle.base.specs.Test.{_and_, _or_, if}
 use borrow.Author.Tests.{eq-eqb, ne-eqb, lt-ltb, le-ltb, le-leb, lt-leb, not-true, not-false}
 use native.Mathlib.Omega.{arith}
@@ -11,7 +11,7 @@ use Rattle.tables.proofs.judge.start_ok.Statement.{statement}
 use Rattle.tables.proofs.judge.start_ok.Tie as tie
 use Rattle.tables.proofs.judge.start_ok.Reads as reads
 use Rattle.tables.proofs.judge.start_ok.Lts as lts
-use Rattle.shapes.proofs.reach.enters_outside.Reads as enters-outside-reads
+use Rattle.shape_core.proofs.reach.enters_outside.Reads as enters-outside-reads
 use Rattle.tables.proofs.judge.starts_section.Reads as starts-section-reads
 
 -- src/judge.rt:69:9

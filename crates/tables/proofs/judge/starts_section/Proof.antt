@@ -3,7 +3,7 @@
 use Rattle.rules.specs.Table.{section4, section5, section6}
 use Rattle.rules.specs.Check.{startsSection}
 use lib.Dec.{eqb}
-use Rattle.shapes.proofs.Tests.{and-no, and-yes, or-no, or-yes, not-no, not-yes}
+use Rattle.shape_core.proofs.Tests.{and-no, and-yes, or-no, or-yes, not-no, not-yes}
 use Rattle.base.specs.Test.{_and_, _or_, if}
 use borrow.Author.Tests.{eq-eqb, ne-eqb, lt-ltb, le-ltb, le-leb, lt-leb, not-true, not-false}
 use native.Mathlib.Omega.{arith}
@@ -14,7 +14,7 @@ use Rattle.tables.proofs.judge.starts_section.Statement.{statement}
 use Rattle.tables.proofs.judge.starts_section.Tie as tie
 use Rattle.tables.proofs.judge.starts_section.Reads as reads
 use Rattle.tables.proofs.judge.starts_section.Lts as lts
-use Rattle.entries.proofs.layout.index.Reads as index-reads
+use Rattle.table_layout.proofs.index.Reads as index-reads
 
 -- src/judge.rt:55:19
 shared-slice-read-index : tie.Need-shared-slice-read-index

@@ -1,0 +1,4 @@
+pub mod Reference
+pub mod OperandDecks
+pub mod ShapeDecks
+pub mod CountDecks

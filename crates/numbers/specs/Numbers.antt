@@ -1,0 +1,37 @@
+-- The number of each answer of the snapshot and of the assembler, as a host sees it: alone, or in the upper half of an answer with a value.
+-- Wrong answers that the equations rule out: another refusal's number, a length or a line in the upper half, a line beside 8, 9 or 10.
+-- Assumes nothing.
+use Prim.Native.Nat.{ℕ, _+_, _*_}
+use Rattle.rules.specs.Number.{refusalNumber, badTable, badState, badTrailer, otherProgram, badFrozen, freshCountOff, memoryLengthOff, shortRoom}
+use Rattle.language.specs.Answer as Cards
+use Rattle.snapshot.specs.declared.waking.Answer.{Answer}
+use Rattle.snapshot.specs.declared.waking.Answer.the-variants.{Woken, BadTable, BadTrailer, OtherProgram, BadFrozen, FreshCountOff, MemoryLengthOff}
+use Rattle.snapshot.specs.declared.writing.Written.{Written}
+use Rattle.snapshot.specs.declared.writing.Written.the-variants as written
+use Rattle.snapshot.specs.declared.writing.Written.the-variants.{Filled, BadState, ShortRoom}
+
+-- a number in the upper half of an answer
+abbrev pub upper : ℕ → ℕ
+upper n = 4294967296 * n
+
+-- the number of restore's answer as the code has it
+abbrev pub numberOf : Answer → ℕ
+numberOf Woken = 0
+numberOf BadTable = refusalNumber badTable
+numberOf BadTrailer = refusalNumber badTrailer
+numberOf OtherProgram = refusalNumber otherProgram
+numberOf BadFrozen = refusalNumber badFrozen
+numberOf FreshCountOff = refusalNumber freshCountOff
+numberOf MemoryLengthOff = refusalNumber memoryLengthOff
+
+-- the number and length of the writer's answer as the code has it
+abbrev pub numberWritten : Written → ℕ
+numberWritten (Filled n) = n
+numberWritten written.BadTable = upper (refusalNumber badTable)
+numberWritten BadState = upper (refusalNumber badState)
+numberWritten ShortRoom = upper (refusalNumber shortRoom)
+
+-- the number of the assembler's answer, with the table's length or the line of the fault
+abbrev pub assembledNumber : Cards.Answer → ℕ
+assembledNumber (Cards.assembled n) = upper 0 + n
+assembledNumber (Cards.refused r) = upper (Cards.refusalNumber r) + Cards.refusalLine r

@@ -1,0 +1,118 @@
+// The one constant table of operations [S The house machine]: a row for each, in the order of the paper's items [M section 8].
+ghost use mathlib.Core.Path.{_≡_};
+ghost use mathlib.Core.List.{map};
+ghost use Rattle.ops.specs.Lookup.{rowOfLetters};
+ghost use Rattle.ops.specs.Ops.{rows, cellsOf};
+use ops::class::*;
+use ops::format::*;
+use ops::lookup::Lookup;
+use ops::lookup::find_letters_in;
+use ops::table::Operations;
+
+// LETTERS, NUMBER, CLASS, ONE, TWO, THREE, BESIDE
+const TABLE: Operations = [
+    [0x4d4f56, 101, GOES, OPV, OPN, NONE, NOTHING], // MOV
+    [0x42524e, 102, BRN, PLBL, NONE, NONE, NOTHING], // BRN
+    [0x425357, 103, BSW, X, VAL, OPT_PLBL, NOTHING], // BSW
+    [0x494646, 104, IFF, VAL, PLBL, NONE, NOTHING], // IFF
+    [0x455357, 105, ESW, NONE, NONE, NONE, NOTHING], // ESW
+    [0x454e54, 106, ENT, OPT_VAL, NONE, NONE, NOTHING], // ENT
+    [0x425249, 107, BRI, OPN, NONE, NONE, NOTHING], // BRI
+    [0x4c4549, 108, GOES, X, NONE, NONE, NOTHING], // LEI
+    [0x4a5352, 109, JSR, PNAM, NONE, NONE, NOTHING], // JSR
+    [0x50504d, 110, PPM, OPT_PLBL, NONE, NONE, NOTHING], // PPM
+    [0x505243, 111, PRC, VAL, NONE, NONE, TYPED], // PRC
+    [0x455849, 112, EXI, OPT_INT, NONE, NONE, NOTHING], // EXI
+    [0x454e50, 113, ENP, NONE, NONE, NONE, NOTHING], // ENP
+    [0x455252, 114, ERR, INT, NONE, NONE, TEXT], // ERR
+    [0x455242, 115, ERB, INT, NONE, NONE, TEXT], // ERB
+    [0x494356, 116, GOES, OPN, NONE, NONE, NOTHING], // ICV
+    [0x444356, 117, GOES, OPN, NONE, NONE, NOTHING], // DCV
+    [0x5a4552, 118, GOES, OPN, NONE, NONE, NOTHING], // ZER
+    [0x4d4e5a, 119, GOES, OPN, NONE, NONE, NOTHING], // MNZ
+    [0x53534c, 120, GOES, OPW, NONE, NONE, NOTHING], // SSL
+    [0x535353, 121, SSS, OPW, NONE, NONE, NOTHING], // SSS
+    [0x52544e, 122, RTN, NONE, NONE, NONE, NOTHING], // RTN
+    [0x4a4d47, 123, JMG, GLBL, NONE, NONE, NOTHING], // JMG
+    [0x414444, 201, GOES, OPV, OPN, NONE, NOTHING], // ADD
+    [0x535542, 202, GOES, OPV, OPN, NONE, NOTHING], // SUB
+    [0x494341, 203, GOES, OPN, NONE, NONE, NOTHING], // ICA
+    [0x444341, 204, GOES, OPN, NONE, NONE, NOTHING], // DCA
+    [0x424551, 205, FORKS, STILL_OPN, STILL_OPV, PLBL, NOTHING], // BEQ
+    [0x424e45, 206, FORKS, STILL_OPN, STILL_OPV, PLBL, NOTHING], // BNE
+    [0x424754, 207, FORKS, STILL_OPN, STILL_OPV, PLBL, NOTHING], // BGT
+    [0x424745, 208, FORKS, STILL_OPN, STILL_OPV, PLBL, NOTHING], // BGE
+    [0x424c54, 209, FORKS, STILL_OPN, STILL_OPV, PLBL, NOTHING], // BLT
+    [0x424c45, 210, FORKS, STILL_OPN, STILL_OPV, PLBL, NOTHING], // BLE
+    [0x424c4f, 211, FORKS, STILL_OPN, STILL_OPV, PLBL, NOTHING], // BLO
+    [0x424849, 212, FORKS, STILL_OPN, STILL_OPV, PLBL, NOTHING], // BHI
+    [0x424e5a, 213, FORKS, STILL_OPN, PLBL, NONE, NOTHING], // BNZ
+    [0x425a45, 214, FORKS, STILL_OPN, PLBL, NONE, NOTHING], // BZE
+    [0x4c4354, 215, GOES, W, OPV, NONE, NOTHING], // LCT
+    [0x424354, 216, FORKS, W, PLBL, NONE, NOTHING], // BCT
+    [0x414f56, 217, FORKS, OPV, OPN, PLBL, NOTHING], // AOV
+    [0x4c4449, 401, GOES, OPS, NONE, NONE, NOTHING], // LDI
+    [0x414449, 402, GOES, OPS, NONE, NONE, NOTHING], // ADI
+    [0x4d4c49, 403, GOES, OPS, NONE, NONE, NOTHING], // MLI
+    [0x534249, 404, GOES, OPS, NONE, NONE, NOTHING], // SBI
+    [0x445649, 405, GOES, OPS, NONE, NONE, NOTHING], // DVI
+    [0x524d49, 406, GOES, OPS, NONE, NONE, NOTHING], // RMI
+    [0x535449, 407, GOES, OPS, NONE, NONE, NOTHING], // STI
+    [0x4e4749, 408, GOES, NONE, NONE, NONE, NOTHING], // NGI
+    [0x494e4f, 409, FORKS, PLBL, NONE, NONE, NOTHING], // INO
+    [0x494f56, 410, FORKS, PLBL, NONE, NONE, NOTHING], // IOV
+    [0x494551, 411, FORKS, PLBL, NONE, NONE, NOTHING], // IEQ
+    [0x494745, 412, FORKS, PLBL, NONE, NONE, NOTHING], // IGE
+    [0x494754, 413, FORKS, PLBL, NONE, NONE, NOTHING], // IGT
+    [0x494c45, 414, FORKS, PLBL, NONE, NONE, NOTHING], // ILE
+    [0x494c54, 415, FORKS, PLBL, NONE, NONE, NOTHING], // ILT
+    [0x494e45, 416, FORKS, PLBL, NONE, NONE, NOTHING], // INE
+    [0x504c43, 601, GOES, X, OPT_OPV, NONE, NOTHING], // PLC
+    [0x505343, 602, GOES, X, OPT_OPV, NONE, NOTHING], // PSC
+    [0x4c4348, 603, GOES, REG, OPC, NONE, NOTHING], // LCH
+    [0x534348, 604, GOES, REG, OPC, NONE, NOTHING], // SCH
+    [0x435343, 605, GOES, X, NONE, NONE, NOTHING], // CSC
+    [0x434551, 606, FORKS, STILL_OPW, STILL_OPW, PLBL, NOTHING], // CEQ
+    [0x434e45, 607, FORKS, STILL_OPW, STILL_OPW, PLBL, NOTHING], // CNE
+    [0x434d43, 608, FORKS, PLBL, PLBL, NONE, NOTHING], // CMC
+    [0x545243, 609, GOES, NONE, NONE, NONE, NOTHING], // TRC
+    [0x414e42, 701, GOES, OPW, W, NONE, NOTHING], // ANB
+    [0x4f5242, 702, GOES, OPW, W, NONE, NOTHING], // ORB
+    [0x584f42, 703, GOES, OPW, W, NONE, NOTHING], // XOB
+    [0x434d42, 704, GOES, W, NONE, NONE, NOTHING], // CMB
+    [0x525348, 705, GOES, W, SHIFT, NONE, NOTHING], // RSH
+    [0x4c5348, 706, GOES, W, SHIFT, NONE, NOTHING], // LSH
+    [0x525358, 707, GOES, W, X, NONE, NOTHING], // RSX
+    [0x4c5358, 708, GOES, W, X, NONE, NOTHING], // LSX
+    [0x4e5a42, 709, FORKS, W, PLBL, NONE, NOTHING], // NZB
+    [0x5a5242, 710, FORKS, W, PLBL, NONE, NOTHING], // ZRB
+    [0x5a4742, 711, GOES, OPN, NONE, NONE, NOTHING], // ZGB
+    [0x575442, 801, GOES, REG, NONE, NONE, NOTHING], // WTB
+    [0x425457, 802, GOES, REG, NONE, NONE, NOTHING], // BTW
+    [0x4d5449, 803, GOES, OPN, NONE, NONE, NOTHING], // MTI
+    [0x4d4649, 804, FORKS, OPN, OPT_PLBL, NONE, NOTHING], // MFI
+    [0x435457, 807, GOES, W, VAL, NONE, NOTHING], // CTW
+    [0x435442, 808, GOES, W, VAL, NONE, NOTHING], // CTB
+    [0x425443, 809, GOES, W, NONE, NONE, NOTHING], // BTC
+    [0x575443, 810, GOES, W, NONE, NONE, NOTHING], // WTC
+    [0x43564d, 811, FORKS, PLBL, NONE, NONE, NOTHING], // CVM
+    [0x435644, 812, GOES, NONE, NONE, NONE, NOTHING], // CVD
+    [0x4d5643, 901, GOES, NONE, NONE, NONE, NOTHING], // MVC
+    [0x4d5657, 903, GOES, NONE, NONE, NONE, NOTHING], // MVW
+    [0x43484b, 1001, CHK, NONE, NONE, NONE, NOTHING], // CHK
+];
+
+// The table, to be taken into a local once and lent: each call of this is a copy.
+pub fn rows() -> Operations
+    ensures { λ r. ⌜ r ≡ map cellsOf rows ⌝ }
+{
+    TABLE
+}
+
+// The row that holds three letters. It copies the table: a loop over cards lends its own to `find_letters_in`.
+pub fn find_letters(a: u8, b: u8, c: u8) -> Lookup
+    ensures { λ r. ⌜ r ≡ rowOfLetters a b c ⌝ }
+{
+    let rows = rows();
+    find_letters_in(&rows, a, b, c)
+}

@@ -1,0 +1,3 @@
+pub mod Exited
+pub mod Granted
+pub mod Packed

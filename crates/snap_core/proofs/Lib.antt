@@ -1,0 +1,5 @@
+pub mod Freshening
+pub mod Puts
+pub mod Reading
+pub mod Tables
+pub mod Trailers

@@ -1,0 +1,2 @@
+pub mod Belows
+pub mod Sizes
