@@ -367,9 +367,13 @@ chmod +x ../bin/rt
 try 1 '' "torzimlak: the command is not built yet, and $away/target/torzimlak.log cannot be written" env PATH="$work/bin:/usr/bin:/bin" "$away/torzimlak" help
 rm -r "$away/target"
 printf '#!/bin/sh\necho no proof\nexit 1\n' > ../bin/rt
-building="torzimlak: building the command; the first time takes some minutes, and $away/target/torzimlak.log shows how far it is"
+cp -R "$top/tools" "$away"
+echo 'tool: io' > "$away/crates.txt"
+building="torzimlak: building the command, which is proved first; $away/target/torzimlak.log has what the prover says
+torzimlak: proving crate 1 of 1, under a minute so far"
 try 1 '' "$building
-torzimlak: the build failed; the end of $away/target/torzimlak.log says why" env PATH="$work/bin:/usr/bin:/bin" "$away/torzimlak" help
+no proof
+torzimlak: the build failed; $away/target/torzimlak.log has all that was said" env PATH="$work/bin:/usr/bin:/bin" "$away/torzimlak" help
 same 'the log of the build' "$(cat "$away/target/torzimlak.log")" 'no proof'
 printf '#!/bin/sh\nexit 0\n' > ../bin/rt
 try 1 '' "$building
