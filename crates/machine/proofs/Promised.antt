@@ -86,7 +86,7 @@ module _ (t : List ℕ) (s : State) (lent : List ℕ) (y : Passed t s lent) wher
           starts = e ∙ ap entryAt (sym (place-of from (s .pc) e));
           passes = rw unpacked-state (y .state);
           room = x .room;
-          few = rw (x .count) few-open t s lent y;
+          few = rw (x .count) (few-open t s lent y);
           fixed = f;
           zero = rw i refl;
         }
