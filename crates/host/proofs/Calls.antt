@@ -28,7 +28,7 @@ use Rattle.resuming.specs.Answers as Machine
 use Rattle.resuming.specs.declared.answers.Answer as Ran
 use Rattle.resuming.specs.declared.answers.Answer.the-variants as ran
 use Rattle.lent.specs.Lent.{codeFrom, lawful, stateFrom, wordsFrom}
-use Rattle.numbers.specs.Numbers.{upper}
+use Rattle.host_numbers.specs.Numbers.{upper}
 use Rattle.host.specs.Running.{HostResumes, HostRuns, HostStarts, callNumber, callWords, startNumber, startWords, unreadNumber, wordsBegun, wordsLeft}
 use Rattle.host.proofs.Freezes.{passed, taken}
 

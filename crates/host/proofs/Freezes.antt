@@ -31,7 +31,7 @@ use Rattle.snapshot.specs.declared.writing.Written.the-variants.{Filled, BadSta
 use Rattle.states.proofs.Admits.{skip, stop}
 use Rattle.lent.specs.Lent.{lawful, codeFrom, stateFrom, wordsFrom}
 use Rattle.host.specs.Freezing.{HostRestores, HostWrites, fileNumber, restoreWords, wokenNumber, wordsAfter, writeWords}
-use Rattle.numbers.specs.Numbers.{numberOf, numberWritten, upper}
+use Rattle.host_numbers.specs.Numbers.{numberOf, numberWritten, upper}
 
 -- a choice by its test
 pub taken : {A : Type 0} (b : Bool) (x y : A) → b ≡ true → if b x y ≡ x

@@ -17,7 +17,7 @@ use Rattle.rules.specs.Snapshot.{fileOf, filled, restoreOf, unwoken, unwritten,
 use Rattle.snapshot.specs.Answers.{memoryAfter, roomAfter}
 use Rattle.states.specs.Views.{codeOf}
 use Rattle.lent.specs.Lent.{lawful, stateFrom, wordsFrom}
-use Rattle.numbers.specs.Numbers.{upper}
+use Rattle.host_numbers.specs.Numbers.{upper}
 
 -- 30, then 31 for words that are no state, then what the rules write of the state that the words are
 unfoldable pub writeWords : List ℕ → List ℕ → List ℕ → ℕ → List ℕ → Snapshot.Written

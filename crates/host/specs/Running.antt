@@ -20,7 +20,7 @@ use Rattle.states.specs.Views.{codeOf}
 use Rattle.starting.specs.Answers.{memoryAfter}
 use Rattle.resuming.specs.Answers.{stepsIn}
 use Rattle.lent.specs.Lent.{lawful, stateFrom, wordsFrom}
-use Rattle.numbers.specs.Numbers.{upper}
+use Rattle.host_numbers.specs.Numbers.{upper}
 
 -- 30, or 31 where the table passes
 unfoldable pub unreadNumber : List ℕ → ℕ

@@ -3,6 +3,7 @@
 use host::cards::torzimlak_assemble;
 use host::torzimlak_run;
 use host::torzimlak_start;
+use host_numbers::UPPER;
 use io::print_decimal;
 use io::write_all;
 use lent::IA;
@@ -10,7 +11,6 @@ use lent::PLACE;
 use lent::WA;
 use lent::WB;
 use lent::WORDS;
-use numbers::UPPER;
 use ops::constants::Machine;
 
 // Words of memory.

@@ -6,6 +6,7 @@ use bodies::entry::index;
 use host::cards::torzimlak_assemble;
 use host::torzimlak_run;
 use host::torzimlak_start;
+use host_numbers::UPPER;
 use io::print_decimal;
 use io::read_full;
 use io::write_all;
@@ -20,7 +21,6 @@ use lent::XL;
 use lent::XR;
 use lent::XS;
 use libc::STDOUT_FILENO;
-use numbers::UPPER;
 use ops::constants::Machine;
 
 // One byte more than a text may have, so that a longer one is seen to be too long.

@@ -12,8 +12,8 @@ use console::page::put_number;
 use console::page::show;
 use host::cards::torzimlak_assemble;
 use host::torzimlak_check_table;
+use host_numbers::UPPER;
 use loading::WORD;
-use numbers::UPPER;
 use snap_core::copy::read_words;
 use snap_core::copy::write_words;
 

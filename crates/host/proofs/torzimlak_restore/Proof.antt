@@ -10,7 +10,7 @@ use Rattle.host.proofs.torzimlak_restore.Tie as tie
 use Rattle.host.proofs.torzimlak_restore.Reads as reads
 use Rattle.host.proofs.torzimlak_restore.Lts as lts
 use Rattle.lent.proofs.put_state.Reads as put-state-reads
-use Rattle.numbers.proofs.number_of.Reads as number-of-reads
+use Rattle.host_numbers.proofs.number_of.Reads as number-of-reads
 use Rattle.snapshot.proofs.waking.restore_checked.Reads as restore-checked-reads
 use Rattle.tables.proofs.check_table.Reads as check-table-reads
 

@@ -12,7 +12,7 @@ use Rattle.host.proofs.torzimlak_write.Reads as reads
 use Rattle.host.proofs.torzimlak_write.Lts as lts
 use Rattle.lent.proofs.state_of.Reads as state-of-reads
 use Rattle.lent.proofs.words_ok.Reads as words-ok-reads
-use Rattle.numbers.proofs.number_written.Reads as number-written-reads
+use Rattle.host_numbers.proofs.number_written.Reads as number-written-reads
 use Rattle.snapshot.proofs.writing.write_checked.Reads as write-checked-reads
 use Rattle.tables.proofs.check_table.Reads as check-table-reads
 

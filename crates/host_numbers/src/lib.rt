@@ -3,7 +3,7 @@
 ghost use mathlib.Core.Path.{_≡_};
 ghost use Prim.Native.Nat.{_+_};
 ghost use Rattle.assembler.specs.Answers.{answerView};
-ghost use Rattle.numbers.specs.Numbers.{assembledNumber, numberOf, numberWritten, upper};
+ghost use Rattle.host_numbers.specs.Numbers.{assembledNumber, numberOf, numberWritten, upper};
 use assembler::Assembled;
 use snapshot::waking::Answer;
 use snapshot::writing::Written;

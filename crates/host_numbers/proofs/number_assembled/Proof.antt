@@ -1,15 +1,15 @@
--- `numbers::number_assembled` meets its contract: a case of the answer at a time.
+-- `host_numbers::number_assembled` meets its contract: a case of the answer at a time.
 -- Assumes nothing.
 use mathlib.Core.Path.{sym, ap, _∙_}
 use Rattle.assembler.specs.declared.Assembled.{Assembled}
 use Rattle.assembler.specs.Answers.{answerView}
-use Rattle.numbers.specs.Numbers.{assembledNumber}
+use Rattle.host_numbers.specs.Numbers.{assembledNumber}
 use borrow.Author.Needs.{needs}
-use Rattle.numbers.proofs.number_assembled.Statement.{statement}
-use Rattle.numbers.proofs.number_assembled.Tie as tie
-use Rattle.numbers.proofs.number_assembled.Reads as reads
-use Rattle.numbers.proofs.number_assembled.Lts as lts
-use Rattle.numbers.proofs.both.Reads as both-reads
+use Rattle.host_numbers.proofs.number_assembled.Statement.{statement}
+use Rattle.host_numbers.proofs.number_assembled.Tie as tie
+use Rattle.host_numbers.proofs.number_assembled.Reads as reads
+use Rattle.host_numbers.proofs.number_assembled.Lts as lts
+use Rattle.host_numbers.proofs.both.Reads as both-reads
 
 -- src/lib.rt:34:25
 enum-known-a : tie.Need-enum-known-a
