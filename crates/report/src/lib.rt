@@ -34,12 +34,14 @@ const BUDGET: u32 = 1000;
 // The word of a table's header that counts its fresh words.
 const FRESH_COUNT: usize = 3;
 
-fn tell(w: u32) {
+// A number behind a space.
+pub fn tell(w: u32) {
     write_all(STDOUT_FILENO, b" ");
     print_decimal(STDOUT_FILENO, w as u64);
 }
 
-fn tell_signed(w: u32) {
+// A signed number behind a space.
+pub fn tell_signed(w: u32) {
     if w <= Machine::CFP_M {
         tell(w);
         return;
@@ -108,7 +110,8 @@ fn run_front(room: &[u32], len: usize) {
     run_table(&room[0..len]);
 }
 
-fn run_cards(cards: &[u8]) {
+// The line of the cards, without its end.
+pub fn run_cards(cards: &[u8]) {
     let mut room = [0u32; MAX_TABLE];
     let r = torzimlak_assemble(cards, &mut room);
     let number = r / UPPER;

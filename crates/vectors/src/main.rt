@@ -1,35 +1,24 @@
-// Runs the cards in each file that its arguments name, as the trial program does. A line for each: its name, then the trial's line.
-use io::write_all;
-use libc::STDOUT_FILENO;
-use report::tell_cards;
+// Lines that the gate compares, each part under a heading: the examples, each run as the trial does; the decks, each assembled; the reference runs;
+// and two machines, frozen, woken, and their files damaged. The arguments name the files, each in the folder of its part.
+use files::each_file;
+use snapshots::tell_snapshots;
+use telling::say;
 
-fn on_file(name: &[u8]) {
-    let fd = os::open_read(name);
-    if fd < 0 {
-        os::fail(name);
-        return;
-    }
-    write_all(STDOUT_FILENO, name);
-    write_all(STDOUT_FILENO, b" ");
-    tell_cards(fd);
-    libc::close(fd);
-}
+mod damage;
+mod files;
+mod machines;
+mod references;
+mod snapshots;
+mod telling;
 
-fn on_argument(i: usize) {
-    let mut name = io::buffer();
-    let n = os::arg(i, &mut name);
-    if os::errno() != 0 {
-        os::fail(b"argument");
-        return;
-    }
-    on_file(&name[..n]);
-}
-
+// A folder goes by its first letter and by how many bytes of a path it takes.
 fn main() {
-    let n = os::arg_count();
-    let mut i: usize = 1;
-    while i < n {
-        on_argument(i);
-        i += 1;
-    }
+    say(b"examples\n");
+    each_file(b'e', 9);
+    say(b"decks\n");
+    each_file(b'd', 6);
+    say(b"reference runs\n");
+    each_file(b'r', 11);
+    say(b"snapshots\n");
+    tell_snapshots();
 }
