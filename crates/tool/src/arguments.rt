@@ -3,13 +3,13 @@ ghost use Prim.Native.Nat.{_≤_};
 ghost use Rattle.io.specs.Counts.{Counts};
 use super::answers::refuse_count;
 use bodies::entry::index;
-use console::files::tell;
 use console::word::Word;
 use console::word::word_in;
 use loading::FRESH;
 use loading::WORD;
 use ops::machine::Machine;
 use snapshot::copy::read_words;
+use tool_files::tell;
 
 // Bytes for all fresh words that a program can have.
 const CHANCE: usize = WORD * Machine::MAX_FRESH;

@@ -4,9 +4,6 @@ use super::arguments::path_at;
 use assembler::MAX_BYTES;
 use assembler::MAX_TABLE;
 use bodies::entry::SIZE;
-use console::files::read_file;
-use console::files::tell;
-use console::files::write_file;
 use console::page::put;
 use console::page::put_number;
 use console::page::show;
@@ -16,6 +13,9 @@ use host::torzimlak_check_table;
 use loading::WORD;
 use snapshot::copy::read_words;
 use snapshot::copy::write_words;
+use tool_files::read_file;
+use tool_files::tell;
+use tool_files::write_file;
 
 // One byte more than cards may have, so that a longer text is seen to be too long by the assembler.
 const TEXT: usize = MAX_BYTES + 1;

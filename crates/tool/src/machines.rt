@@ -5,9 +5,6 @@ use super::answers::tell_stop;
 use super::arguments::Supply;
 use super::report::put_report;
 use bodies::entry::index;
-use console::files::read_file;
-use console::files::tell;
-use console::files::write_file;
 use console::page::put;
 use console::page::put_number;
 use console::page::show;
@@ -23,6 +20,9 @@ use ops::machine::Machine;
 use snapshot::layout::TRAILER;
 use snapshot::trailer::MEMORY;
 use snapshot::trailer::trailer_word;
+use tool_files::read_file;
+use tool_files::tell;
+use tool_files::write_file;
 
 // The build number of every snapshot, the argument of every start, and the answer to the EXP that a woken machine waits in: no exit.
 const BUILD: u32 = 1;
