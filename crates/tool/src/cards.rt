@@ -11,9 +11,9 @@ use tool_arguments::FIRST;
 use tool_arguments::SECOND;
 use tool_arguments::read_file;
 use tool_arguments::refuse;
+use tool_arguments::sizes::is_table;
+use tool_arguments::sizes::tell_table;
 use tool_arguments::write_file;
-use tool_report::sizes::is_table;
-use tool_report::sizes::tell_table;
 
 // One byte more than cards may have, so that a longer text is seen to be too long by the assembler.
 const TEXT: usize = MAX_BYTES + 1;

@@ -19,6 +19,8 @@ use tool_arguments::FIRST;
 use tool_arguments::SECOND;
 use tool_arguments::read_file;
 use tool_arguments::refuse;
+use tool_arguments::sizes::is_snapshot;
+use tool_arguments::sizes::tell_snapshot;
 use tool_arguments::write_file;
 use tool_command::Task;
 use tool_fresh::Supply;
@@ -27,8 +29,6 @@ use tool_fresh::fresh_words;
 use tool_report::runs::has_run;
 use tool_report::runs::is_stopped;
 use tool_report::runs::tell_run;
-use tool_report::sizes::is_snapshot;
-use tool_report::sizes::tell_snapshot;
 
 // The build number of every snapshot, the argument of every start, and the answer to the EXP that a woken machine waits in: no exit.
 const BUILD: u32 = 1;

@@ -1,9 +1,9 @@
 // The numbers that the host sees, in plain words [S Numbers the host sees], and the lines that tell of them.
-use console::form::put_form;
 use console::lines::line_of;
 use console::page::complain;
 use console::word::Word;
 use console::word::word_in;
+use tool_forms::put_form;
 
 // The refusal of another count of fresh words than the program's.
 const FRESH_COUNT_OFF: u32 = 43;

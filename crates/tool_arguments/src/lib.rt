@@ -1,6 +1,8 @@
 // The arguments that are paths of files. Once a command's paths are seen to be there, a file goes by the number of its argument.
 ghost use Rattle.io.specs.Counts.{Counts};
 
+pub mod sizes;
+
 // The arguments with a command's first file, the cards of those that have any, and with its second.
 pub const FIRST: usize = 2;
 
@@ -33,7 +35,7 @@ pub fn tell(i: usize, what: &[u8]) {
 pub fn say(i: usize, form: &[u8], other: &[u8], numbers: &[u64]) {
     let mut path = io::buffer();
     let n = os::arg(i, &mut path);
-    console::form::say(form, &path[..n], other, numbers);
+    tool_forms::say(form, &path[..n], other, numbers);
 }
 
 // A refusal of that file, with the line of its cards, if there is one.

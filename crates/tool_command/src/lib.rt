@@ -4,10 +4,10 @@ ghost use lib.ListN.{length};
 use asm_text::BLANK;
 use asm_text::find_byte;
 use check::same;
-use console::form::say;
-use console::form::warn;
 use console::lines::line_of;
 use tool_files::tell;
+use tool_forms::say;
+use tool_forms::warn;
 
 // What is asked for; nothing where that is done already: help, or what was told.
 pub enum Task {
@@ -19,9 +19,7 @@ pub enum Task {
     Wake,
 }
 
-// How many commands there are besides help, and the most files that one takes.
-const COMMANDS: usize = 5;
-
+// The most files that a command takes.
 const MOST_FILES: usize = 8;
 
 fn help() {
@@ -192,10 +190,13 @@ fn is_help(name: &[u8]) -> bool {
     same(name, b"-h")
 }
 
-// The line with the command of this name, or 0.
+// The line with the command of this name, or 0. A text has fewer lines than bytes.
 fn command_in(commands: &[u8], name: &[u8]) -> usize {
+    if name.len() == 0 {
+        return 0;
+    }
     let mut k: usize = 1;
-    while k <= COMMANDS {
+    while k < commands.len() {
         if same(name, word_of(line_of(commands, k), 0)) {
             return k;
         }

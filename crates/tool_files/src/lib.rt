@@ -3,12 +3,12 @@ ghost use Prim.Native.Nat.{_≤_};
 ghost use lib.ListN.{length};
 ghost use Rattle.io.specs.Counts.{Counts};
 ghost use Rattle.libc.specs.Io.{Ended};
-use console::form::put_form;
-use console::form::warn;
 use console::page::put;
 use io::read_full;
 use io::write_all;
 use libc::PATH_MAX;
+use tool_forms::put_form;
+use tool_forms::warn;
 use words::word_of;
 
 // A line on standard error: the file, and what is wrong with it.

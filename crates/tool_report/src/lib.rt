@@ -1,4 +1,3 @@
 // What a run left, as lines, over plain words: the table's, memory's and the 267 of a state.
 pub mod runs;
-pub mod shown;
-pub mod sizes;
+mod shown;

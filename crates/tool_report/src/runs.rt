@@ -1,12 +1,12 @@
 // A run's answer: a number in its upper half, the steps in its lower. Endings are told with what they left.
 use super::shown::put_text;
-use console::form::put_form;
 use console::lines::line_of;
 use console::page::show;
 use ops::machine::Machine;
 use tool_answers::put_answer;
 use tool_arguments::refuse;
 use tool_arguments::tell_stop;
+use tool_forms::put_form;
 use tool_fresh::Supply;
 
 // A number of 1 in the upper half of an answer.
@@ -70,19 +70,20 @@ pub fn is_stopped(r: u64) -> bool {
     STOP <= r / UPPER
 }
 
+// The line that says whose fresh words they are in a text with one for each supply that is told.
+fn whose(supply: Supply) -> usize {
+    match supply {
+        Supply::System => 1,
+        Supply::Given => 2,
+        _ => 0,
+    }
+}
+
 // How many fresh words there were, and whose.
 fn put_supply(page: &mut [u8], supply: Supply, count: usize) -> usize {
-    let mut k: usize = 0;
-    match supply {
-        Supply::System => {
-            k = 1;
-        }
-        Supply::Given => {
-            k = 2;
-        }
-        _ => {
-            return 0;
-        }
+    let k = whose(supply);
+    if k == 0 {
+        return 0;
     }
     put_form(
         page,
@@ -160,14 +161,24 @@ fn exits(table: &[u32], number: u32) -> u32 {
     word_at(table, HEADER + ENTRY * n + fresh + number as usize)
 }
 
+// The EXP that the machine waits in.
+fn put_external(page: &mut [u8], at: usize, table: &[u32], number: u32) -> usize {
+    put_form(
+        page,
+        at,
+        b"waits in EXP #, exits #\n",
+        b"",
+        b"",
+        &[number as u64, exits(table, number) as u64],
+    )
+}
+
 // What the machine waits for: the EXP, and the text that XL and WA name.
 fn put_waiting(page: &mut [u8], at: usize, table: &[u32], memory: &[u32], state: &[u32]) -> usize {
     if word_at(state, WAITING) != 1 {
         return at;
     }
-    let number = external(table, word_at(state, PLACE));
-    let numbers = [number as u64, exits(table, number) as u64];
-    let behind = put_form(page, at, b"waits in EXP #, exits #\n", b"", b"", &numbers);
+    let behind = put_external(page, at, table, external(table, word_at(state, PLACE)));
     let a = word_at(state, XL);
     let n = word_at(state, WA);
     put_text(page, behind, memory, a as usize, n as usize)

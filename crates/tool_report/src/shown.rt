@@ -1,8 +1,8 @@
 // The text that a machine shows while it waits.
 ghost use Rattle.io.specs.Counts.{Counts};
 use asm_text::all_printed;
-use console::form::put_form;
 use ops::machine::Machine;
+use tool_forms::put_form;
 use words::bytes_of;
 
 // Bytes of a word, and of the longest memory.
@@ -37,15 +37,20 @@ fn take_text(memory: &[u32], a: usize, n: usize, room: &mut [u8]) -> usize
     n
 }
 
-// The n characters from address a on, if there are any, they lie in memory and can all be printed.
+// The text, if it has characters that can all be printed.
+fn put_printed(page: &mut [u8], at: usize, text: &[u8]) -> usize {
+    if text.len() == 0 {
+        return at;
+    }
+    if !all_printed(text) {
+        return at;
+    }
+    put_form(page, at, b"text: $\n", b"", text, &[])
+}
+
+// The n characters from address a on, if they lie in memory and can be printed.
 pub fn put_text(page: &mut [u8], at: usize, memory: &[u32], a: usize, n: usize) -> usize {
     let mut room = [0u8; BYTES];
     let k = take_text(memory, a, n, &mut room);
-    if k == 0 {
-        return at;
-    }
-    if !all_printed(&room[..k]) {
-        return at;
-    }
-    put_form(page, at, b"text: $\n", b"", &room[..k], &[])
+    put_printed(page, at, &room[..k])
 }

@@ -2,15 +2,19 @@
 -- Assumes nothing.
 use Prim.Native.Nat.{_-_, _≤_}
 use native.Mathlib.Omega.{arith}
+use lib.ListN.{length}
 use borrow.Author.Needs.{needs}
 use Rattle.tool_command.proofs.command_in.Statement.{statement}
 use Rattle.tool_command.proofs.command_in.Tie as tie
 
 abbrev Inv-loop : tie.InvT-loop
-Inv-loop commands name k₀ k = k ≤ 6
+Inv-loop commands name k₀ k = 1 ≤ k
 
 abbrev μ-loop : tie.MeasureT-loop
-μ-loop commands name k₀ k = 6 - k
+μ-loop commands name k₀ k = length commands - k
+
+returns : tie.Need-returns Inv-loop μ-loop
+returns c = search needs
 
 loop-holds : tie.Need-loop-holds Inv-loop μ-loop
 loop-holds c = omega arith
@@ -24,8 +28,8 @@ word-of-requires c κs = search needs
 same-requires : tie.Need-same-requires Inv-loop μ-loop
 same-requires c κs = search needs
 
-returns : tie.Need-returns Inv-loop μ-loop
-returns c = search needs
+returns-2 : tie.Need-returns-2 Inv-loop μ-loop
+returns-2 c = search needs
 
 add-k : tie.Need-add-k Inv-loop μ-loop
 add-k c = omega arith
@@ -36,8 +40,8 @@ loop-less c = omega arith
 loop-again : tie.Need-loop-again Inv-loop μ-loop
 loop-again c = omega arith
 
-returns-2 : tie.Need-returns-2 Inv-loop μ-loop
-returns-2 c = search needs
+returns-3 : tie.Need-returns-3 Inv-loop μ-loop
+returns-3 c = search needs
 
 pub command-in-spec : {M : Type 1} → statement M
 command-in-spec =
@@ -45,12 +49,13 @@ command-in-spec =
     (tie.spec
     Inv-loop
     μ-loop
+    returns
     loop-holds
     line-of-requires
     word-of-requires
     same-requires
-    returns
+    returns-2
     add-k
     loop-less
     loop-again
-    returns-2)
+    returns-3)

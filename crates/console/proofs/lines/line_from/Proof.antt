@@ -11,9 +11,6 @@ use Rattle.console.specs.Line.{lineAt, lineOf}
 use Rattle.console.proofs.Numbered.{behind-le, line-next}
 use Rattle.console.proofs.lines.line_from.Statement.{statement}
 use Rattle.console.proofs.lines.line_from.Tie as tie
-use Rattle.console.proofs.lines.line_from.Reads as reads
-use Rattle.console.proofs.lines.line_from.Lts as lts
-use Rattle.asm_reader.proofs.line_behind.Reads as line-behind-reads
 
 abbrev Inv-loop : tie.InvT-loop
 Inv-loop text k at₀ i₀ at i = (i ≤ k) × (at ≤ length text) × (lineAt (lines (drop at text)) (k - i) ≡ lineOf text k)

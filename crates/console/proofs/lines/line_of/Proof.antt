@@ -5,10 +5,6 @@ use borrow.Author.Needs.{needs}
 use Rattle.console.proofs.Numbered.{line-bytes}
 use Rattle.console.proofs.lines.line_of.Statement.{statement}
 use Rattle.console.proofs.lines.line_of.Tie as tie
-use Rattle.console.proofs.lines.line_of.Reads as reads
-use Rattle.console.proofs.lines.line_of.Lts as lts
-use Rattle.asm_reader.proofs.line_end.Reads as line-end-reads
-use Rattle.console.proofs.lines.line_from.Reads as line-from-reads
 
 line-from-requires : tie.Need-line-from-requires
 line-from-requires c κs = search needs

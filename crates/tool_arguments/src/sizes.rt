@@ -1,8 +1,8 @@
 // Sizes of files, and of the tables and snapshots in them.
-use tool_arguments::FIRST;
-use tool_arguments::SECOND;
-use tool_arguments::say;
-use tool_arguments::tell;
+use crate::FIRST;
+use crate::SECOND;
+use crate::say;
+use crate::tell;
 
 // Bytes of a word, and the word of a table's header with its count of entries.
 const WORD: usize = 4;

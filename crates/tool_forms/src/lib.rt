@@ -1,10 +1,10 @@
 // Messages by their forms, so that a message is one call: the bytes of the form, but the text where it has `%`, the other text where it has `$`, and the
 // next of the numbers where it has `#`.
 ghost use Prim.Native.Nat.{_+_, _<_, _≤_};
-use super::page::complain;
-use super::page::put;
-use super::page::put_number;
-use super::page::show;
+use console::page::complain;
+use console::page::put;
+use console::page::put_number;
+use console::page::show;
 
 // Number k, or 0 where there are fewer.
 fn number_at(numbers: &[u64], k: usize) -> u64 {

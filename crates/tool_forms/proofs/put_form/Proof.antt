@@ -1,14 +1,12 @@
--- `console::form::put_form` is safe and ends: each round is one byte of the form, and no more numbers are passed than bytes.
+-- `tool_forms::put_form` is safe and ends: each round is one byte of the form, and no more numbers are passed than bytes.
 -- Assumes nothing.
 use Prim.Native.Nat.{_-_, _≤_}
 use mathlib.Core.Path.{_≡_, refl, _∙_}
 use native.Mathlib.Omega.{arith}
 use lib.ListN.{length}
 use borrow.Author.Needs.{needs}
-use Rattle.console.proofs.form.put_form.Statement.{statement}
-use Rattle.console.proofs.form.put_form.Tie as tie
-use Rattle.console.proofs.form.put_form.Reads as reads
-use Rattle.console.proofs.form.put_form.Lts as lts
+use Rattle.tool_forms.proofs.put_form.Statement.{statement}
+use Rattle.tool_forms.proofs.put_form.Tie as tie
 
 abbrev Inv-loop : tie.InvT-loop
 Inv-loop page₀ at form text other numbers behind₀ k₀ i₀ page behind k i = (k ≤ i) × (i ≤ length form) × (length page ≡ length page₀)
