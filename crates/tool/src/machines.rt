@@ -26,9 +26,9 @@ use tool_command::Task;
 use tool_fresh::Supply;
 use tool_fresh::fresh_in;
 use tool_fresh::fresh_words;
-use tool_report::runs::has_run;
-use tool_report::runs::is_stopped;
-use tool_report::runs::tell_run;
+use tool_report::has_run;
+use tool_report::is_stopped;
+use tool_report::tell_run;
 
 // The build number of every snapshot, the argument of every start, and the answer to the EXP that a woken machine waits in: no exit.
 const BUILD: u32 = 1;

@@ -1,4 +1,4 @@
--- `tool_report::shown::take_text` meets its contract: each round is one character, whose word lies in memory.
+-- `tool_shown::take_text` meets its contract: each round is one character, whose word lies in memory.
 -- Assumes nothing.
 use Prim.Native.Nat.{_-_, _≤_}
 use mathlib.Core.Path.{_≡_, refl, sym}
@@ -6,8 +6,8 @@ use native.Mathlib.Omega.{arith}
 use lib.ListN.{length}
 use lib.Seq.{length-take-le}
 use borrow.Author.Needs.{needs}
-use Rattle.tool_report.proofs.shown.take_text.Statement.{statement}
-use Rattle.tool_report.proofs.shown.take_text.Tie as tie
+use Rattle.tool_shown.proofs.take_text.Statement.{statement}
+use Rattle.tool_shown.proofs.take_text.Tie as tie
 
 abbrev Inv-loop : tie.InvT-loop
 Inv-loop memory a n room₀ most i₀ room i = (i ≤ n) × (length room ≡ length room₀)
