@@ -3,26 +3,17 @@ ghost use Prim.Native.Nat.{_≤_};
 ghost use lib.ListN.{length};
 ghost use Rattle.io.specs.Counts.{Counts};
 ghost use Rattle.libc.specs.Io.{Ended};
-use super::page::complain;
-use super::page::put;
-use super::page::put_number;
+use console::page::put;
 use io::read_full;
 use io::write_all;
 use libc::PATH_MAX;
+use tool_forms::put_form;
+use tool_forms::warn;
 use words::word_of;
 
 // A line on standard error: the file, and what is wrong with it.
 pub fn tell(path: &[u8], what: &[u8]) {
-    let mut page = io::large_buffer();
-    let n = put_told(&mut page, path, what);
-    complain(&page, n);
-}
-
-fn put_told(page: &mut [u8], path: &[u8], what: &[u8]) -> usize {
-    let mut at = put(page, 0, path);
-    at = put(page, at, b": ");
-    at = put(page, at, what);
-    put(page, at, b"\n")
+    warn(b"%: $\n", path, what, &[]);
 }
 
 // Fills the room from the file's front and answers how many bytes it got; 0 where there are none or the file cannot be read, which is told.
@@ -112,9 +103,8 @@ fn chance() -> u32 {
 // The name of a new file in the folder of the path.
 fn put_beside(name: &mut [u8], path: &[u8]) -> usize {
     let k = folder(path);
-    let mut at = put(name, 0, &path[0..k]);
-    at = put(name, at, b".torzimlak-");
-    put_number(name, at, chance() as u64)
+    let number = [chance() as u64; 1];
+    put_form(name, 0, b"%.torzimlak-#", &path[0..k], b"", &number)
 }
 
 // All bytes are written and have reached the device.
