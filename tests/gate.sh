@@ -1,5 +1,5 @@
 #!/bin/sh
-# Tries the gate (.ci/run), tools/gate-times, tools/progress and the first build of ./torzimlak on copies in a folder of its own, with programs of its own in place of
+# Tries the gate (.ci/run), tools/gate-times, tools/order, tools/progress and the first build of ./torzimlak on copies in a folder of its own, with programs of its own in place of
 # rt, cargo and tests/host. Proves nothing and takes some seconds. The last line is 'gate.sh: N passed, 0 failed'.
 CDPATH=
 top=$(cd "$(dirname "$0")/.." && pwd -P) || exit 1
@@ -152,6 +152,21 @@ try 'a table is renewed, from the log of the gate' 0 "gate-times: docs/GATE.md h
 same 'the page is the same' "$(cat docs/GATE.md)" "$page"
 echo 'rt: FAILED: base' >> ../log
 try 'no table of a gate that failed' 2 'gate-times: ../log is of a gate that failed' tools/gate-times --write ../log
+
+# The order of the crates.
+printf '# NAME: the crates that it uses\ntool: rules old io\nold: base\nrules: base\nnew: base\nbase:\n' > crates.txt
+try 'crates in order' 0 '' tools/order
+same 'by levels, the longest first' "$(cat crates.txt)" '# NAME: the crates that it uses
+base:
+new: base
+rules: base
+old: base
+tool: rules old io'
+cp crates.txt ../ordered
+try 'crates in order again' 0 '' tools/order
+same 'nothing moves' "$(cat crates.txt)" "$(cat ../ordered)"
+echo 'what is this' >> crates.txt
+try 'a line that is no crate' 2 'tools/order: crates.txt has lines that are no crates' tools/order
 
 # How far a build is.
 printf '# NAME: the crates that it uses\nbase:\nrules: base\nold: base\nother: base\ntool: rules old io\n' > crates.txt
