@@ -13,7 +13,10 @@ use ops::format::EXTERNAL_KIND;
 use ops::format::PLACE_KIND;
 use table_layout::ENTRY;
 use table_layout::HEADER;
+use table_layout::KIND;
+use table_layout::VALUE;
 use table_layout::index;
+use table_layout::word;
 
 // An exit card stands at q.
 pub fn is_exit(table: &[u32], classes: &[u32], body: &[u32], n: usize, q: usize) -> bool
@@ -61,13 +64,13 @@ pub fn exits_of(table: &[u32], classes: &[u32], body: &[u32], n: usize, p: usize
     requires { ⌜ Known (now table) (now classes) (now body) n × (p < n) ⌝ }
     ensures { λ r. ⌜ r ≡ exitsOf (now (table .entry)) (callee (now (table .entry)) p) ⌝ }
 {
-    let kind = table[HEADER + ENTRY * p + 1];
-    let v = index(table[HEADER + ENTRY * p + 3]);
+    let kind = word(table, p, KIND);
+    let v = index(word(table, p, VALUE));
     if kind == PLACE_KIND {
         if class_at(table, classes, body, n, v) != class::PRC {
             return Exits::Unnamed;
         }
-        return Exits::Count(table[HEADER + ENTRY * v + 3]);
+        return Exits::Count(word(table, v, VALUE));
     }
     if kind != EXTERNAL_KIND {
         return Exits::Unnamed;

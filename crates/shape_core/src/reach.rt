@@ -2,14 +2,20 @@
 ghost use mathlib.Core.Path.{_≡_};
 ghost use Prim.Native.Nat.{suc, _+_, _*_, _≤_, _<_};
 ghost use lib.Dec.{eqb};
+ghost use lib.ListN.{length};
 ghost use Rattle.base.specs.Test.{_and_};
 ghost use Rattle.ops.specs.Class.{classCode};
 ghost use Rattle.rules.specs.Check as Check;
-ghost use Rattle.rules.specs.Table.{classAt, bodyAt, executable};
+ghost use Rattle.rules.specs.Table.{classAt, bodyAt, executable, target1, target2};
 ghost use Rattle.shape_core.specs.Known.{Known, targetOf};
 use ops::class::*;
 use ops::format::PLACE_KIND;
+use table_layout::KIND;
+use table_layout::KIND_TWO;
+use table_layout::VALUE;
+use table_layout::VALUE_TWO;
 use table_layout::index;
+use table_layout::word;
 
 // The number of classes that can be executed.
 pub const EXECUTABLE: u32 = 13;
@@ -64,13 +70,29 @@ pub fn enters_outside(table: &[u32], classes: &[u32], body: &[u32], n: usize, q:
 }
 
 // A place operand by its kind and its value: 0 for none, else 1 + the place.
-pub fn target(kind: u32, v: u32) -> usize
+fn target(kind: u32, v: u32) -> usize
     ensures { λ r. ⌜ r ≡ targetOf kind v ⌝ }
 {
     if kind != PLACE_KIND {
         return 0;
     }
     v as usize + 1
+}
+
+// Place operand one of the entry at place p: 0 for none, else 1 + the place.
+pub fn target_one(table: &[u32], p: usize) -> usize
+    requires { ⌜ 8 + 8 * p + 7 < length (now table) ⌝ }
+    ensures { λ r. ⌜ r ≡ target1 (now (table .entry)) p ⌝ }
+{
+    target(word(table, p, KIND), word(table, p, VALUE))
+}
+
+// Place operand two of the entry at place p: 0 for none, else 1 + the place.
+pub fn target_two(table: &[u32], p: usize) -> usize
+    requires { ⌜ 8 + 8 * p + 7 < length (now table) ⌝ }
+    ensures { λ r. ⌜ r ≡ target2 (now (table .entry)) p ⌝ }
+{
+    target(word(table, p, KIND_TWO), word(table, p, VALUE_TWO))
 }
 
 // A branch that may be missing stays in the body of p.

@@ -20,36 +20,36 @@ use Rattle.shape_core.specs.Counted.{differsAt, freshAt, listOk, Marked, Counte
 use Rattle.shape_core.proofs.Codes.{is-code}
 use Rattle.shape_core.proofs.Tests.{and-no, and-yes, and-none, or-no, or-yes, not-no, not-yes}
 
--- one IFF
-module _ (t : List ℕ) (q : ℕ) where
-  known-not : (getD t (8 + 8 * q + 1) 0 ≡ 1 → ⊥) → not (valueKnown t q) ≡ true
+-- one IFF, whose kind is j, and whose value is w
+module _ (t : List ℕ) (q : ℕ) {j : ℕ} (d : j ≡ getD t (8 + 8 * q + 1) 0) where
+  known-not : (j ≡ 1 → ⊥) → not (valueKnown t q) ≡ true
   unfolding valueKnown field
-  known-not h = not-no _ (ne-eqb _ _ h)
+  known-not h = not-no _ (ne-eqb _ _ (λ z. h (d ∙ z)))
 
-  known-is : getD t (8 + 8 * q + 1) 0 ≡ 1 → not (valueKnown t q) ≡ false
+  known-is : j ≡ 1 → not (valueKnown t q) ≡ false
   unfolding valueKnown field
-  known-is h = not-yes _ (eq-eqb _ _ h)
+  known-is h = not-yes _ (eq-eqb _ _ (sym d ∙ h))
 
-  pub differs-unknown : (v : ℕ) → (getD t (8 + 8 * q + 1) 0 ≡ 1 → ⊥) → true ≡ differsAt t v q
+  pub differs-unknown : (v : ℕ) → (j ≡ 1 → ⊥) → true ≡ differsAt t v q
   unfolding differsAt
   differs-unknown v h = sym (or-yes _ _ (known-not h))
 
-  pub differs-known : (v : ℕ) → getD t (8 + 8 * q + 1) 0 ≡ 1 → not (eqb (getD t (8 + 8 * q + 3) 0) v) ≡ differsAt t v q
-  unfolding differsAt value field
-  differs-known v h = sym (or-no _ _ (known-is h))
-
-  pub fresh-unknown : (limit k : ℕ) → (getD t (8 + 8 * q + 1) 0 ≡ 1 → ⊥) → true ≡ freshAt t limit q k
+  pub fresh-unknown : (limit k : ℕ) → (j ≡ 1 → ⊥) → true ≡ freshAt t limit q k
   unfolding freshAt
   fresh-unknown limit k h = sym (or-yes _ _ (known-not h))
 
-  pub fresh-past : (limit k : ℕ) → getD t (8 + 8 * q + 1) 0 ≡ 1 → limit ≤ getD t (8 + 8 * q + 3) 0 → false ≡ freshAt t limit q k
-  unfolding freshAt value field
-  fresh-past limit k h l = sym (or-no _ _ (known-is h) ∙ and-no _ _ (le-ltb _ _ l))
+  module _ {w : ℕ} (e : w ≡ getD t (8 + 8 * q + 3) 0) where
+    pub differs-known : (v : ℕ) → j ≡ 1 → not (eqb w v) ≡ differsAt t v q
+    unfolding differsAt value field
+    differs-known v h = rw e (sym (or-no _ _ (known-is h)))
 
-  pub fresh-known : (limit k : ℕ) → getD t (8 + 8 * q + 1) 0 ≡ 1 → getD t (8 + 8 * q + 3) 0 < limit
-      → unlike t (getD t (8 + 8 * q + 3) 0) (q + 1) k ≡ freshAt t limit q k
-  unfolding freshAt value field
-  fresh-known limit k h l = rw (add-one q) (sym (or-no _ _ (known-is h) ∙ and-yes _ _ (lt-ltb _ _ l)))
+    pub fresh-past : (limit k : ℕ) → j ≡ 1 → limit ≤ w → false ≡ freshAt t limit q k
+    unfolding freshAt value field
+    fresh-past limit k h l = sym (or-no _ _ (known-is h) ∙ and-no _ _ (le-ltb _ _ (rw e at l)))
+
+    pub fresh-known : (limit k : ℕ) → j ≡ 1 → w < limit → unlike t w (q + 1) k ≡ freshAt t limit q k
+    unfolding freshAt value field
+    fresh-known limit k h l = rw (add-one q, e) (sym (or-no _ _ (known-is h) ∙ and-yes _ _ (lt-ltb _ _ (rw e at l))))
 
 -- one value, forward
 pub unlike-next : (t : List ℕ) (v p k i : ℕ) → i < k → unlike t v (p + i) (k - i) ≡ differsAt t v (p + i) and unlike t v (p + (i + 1)) (k - (i + 1))
@@ -71,19 +71,19 @@ unlike-more : (t : List ℕ) (v q k : ℕ) → unlike t v q (suc k) ≡ differsA
 unfolding unlike differsAt
 unlike-more t v q k = rw (add-one q) refl
 
-module _ (t ms : List ℕ) (q k : ℕ) (m : Marked t ms (q + 1) k) where
-  pub mark-unknown : (getD t (8 + 8 * q + 1) 0 ≡ 1 → ⊥) → Marked t ms q (suc k)
+module _ (t ms : List ℕ) (q k : ℕ) (m : Marked t ms (q + 1) k) {j : ℕ} (d : j ≡ getD t (8 + 8 * q + 1) 0) where
+  pub mark-unknown : (j ≡ 1 → ⊥) → Marked t ms q (suc k)
   mark-unknown h =
-      record { room = m .room; clear = λ v z. unlike-more t v q k ∙ and-yes _ _ (sym (differs-unknown t q v h)) ∙ m .clear v z }
+      record { room = m .room; clear = λ v z. unlike-more t v q k ∙ and-yes _ _ (sym (differs-unknown t q d v h)) ∙ m .clear v z }
 
-  pub mark-known : (i : ℕ) → i ≡ getD t (8 + 8 * q + 3) 0 % 1024 → i < 1024 → getD t (8 + 8 * q + 1) 0 ≡ 1 → Marked t (set ms i 1) q (suc k)
+  pub mark-known : (i : ℕ) → i ≡ getD t (8 + 8 * q + 3) 0 % 1024 → i < 1024 → j ≡ 1 → Marked t (set ms i 1) q (suc k)
   mark-known i e g h =
       record {
         room = rw (length-set ms i 1) (m .room);
         clear = λ v z.
-            let d : v % 1024 ≢ i = other v z in
-            unlike-more t v q k ∙ and-yes _ _ (sym (differs-known t q v h) ∙ not-no _ (ne-eqb _ _ (λ w. d (sym (e ∙ ap (λ (x : ℕ). x % 1024) w)))))
-            ∙ m .clear v (sym (getD-set-other ms i (v % 1024) 1 0 d) ∙ z);
+            let o : v % 1024 ≢ i = other v z in
+            unlike-more t v q k ∙ and-yes _ _ (sym (differs-known t q d refl v h) ∙ not-no _ (ne-eqb _ _ (λ w. o (sym (e ∙ ap (λ (x : ℕ). x % 1024) w)))))
+            ∙ m .clear v (sym (getD-set-other ms i (v % 1024) 1 0 o) ∙ z);
       }
     where
       other : (v : ℕ) → getD (set ms i 1) (v % 1024) 0 ≡ 0 → v % 1024 ≢ i
@@ -166,6 +166,6 @@ module _ (t : List ℕ) (p k c : ℕ) (i : k ≡ iffs t (p + 1) (size t)) (e : c
   pub switch-open : (c ≡ 16 → ⊥) → false ≡ listOk t p
   switch-open h = sym (and-no _ _ (closed ∙ ne-eqb _ _ h)) ∙ listed
 
-  pub switch-closed : c ≡ 16 → distinctIffs t (getD t (8 + 8 * p + 6) 0) (p + 1) k ≡ listOk t p
+  pub switch-closed : c ≡ 16 → {l : ℕ} → l ≡ getD t (8 + 8 * p + 6) 0 → distinctIffs t l (p + 1) k ≡ listOk t p
   unfolding field
-  switch-closed h = rw (add-one p) (sym (and-yes _ _ (closed ∙ eq-eqb _ _ h)) ∙ listed)
+  switch-closed h f = rw (add-one p, f) (sym (and-yes _ _ (closed ∙ eq-eqb _ _ h)) ∙ listed)

@@ -17,9 +17,12 @@ use ops::class;
 use ops::format::VALUE_KIND;
 use shape_core::reach::class_at;
 use shape_core::reach::may_reach;
-use table_layout::ENTRY;
-use table_layout::HEADER;
+use table_layout::KIND;
+use table_layout::THIRD;
+use table_layout::VALUE;
+use table_layout::VALUE_TWO;
 use table_layout::index;
+use table_layout::word;
 
 // Values are marked by their remainder.
 const MARKS: usize = 1024;
@@ -44,10 +47,10 @@ fn differs(table: &[u32], q: usize, v: u32) -> bool
     requires { ⌜ (q < 16384) × (8 + 8 * q + 7 < length (now table)) ⌝ }
     ensures { λ r. ⌜ r ≡ differsAt (now (table .entry)) v q ⌝ }
 {
-    if table[HEADER + ENTRY * q + 1] != VALUE_KIND {
+    if word(table, q, KIND) != VALUE_KIND {
         return true;
     }
-    table[HEADER + ENTRY * q + 3] != v
+    word(table, q, VALUE) != v
 }
 
 // No IFF of the k from place p on has the value v.
@@ -70,10 +73,10 @@ fn is_fresh(table: &[u32], marks: &[u8], limit: u32, q: usize, k: usize) -> bool
     requires { ⌜ (q + 1 + k ≤ 16384) × (8 + 8 * (q + 1 + k) ≤ length (now table)) × Marked (now table) (now marks) (q + 1) k ⌝ }
     ensures { λ r. ⌜ r ≡ freshAt (now (table .entry)) limit q k ⌝ }
 {
-    if table[HEADER + ENTRY * q + 1] != VALUE_KIND {
+    if word(table, q, KIND) != VALUE_KIND {
         return true;
     }
-    let v = table[HEADER + ENTRY * q + 3];
+    let v = word(table, q, VALUE);
     if limit <= v {
         return false;
     }
@@ -89,10 +92,10 @@ fn mark(table: &[u32], marks: &mut [u8], q: usize, k: usize)
     requires { ⌜ (q < 16384) × (8 + 8 * q + 7 < length (now table)) × Marked (now table) (now marks) (q + 1) k ⌝ }
     ensures { λ r. ⌜ Marked (now (table .entry)) (now (marks .exit)) q (suc k) ⌝ }
 {
-    if table[HEADER + ENTRY * q + 1] != VALUE_KIND {
+    if word(table, q, KIND) != VALUE_KIND {
         return;
     }
-    let i = index(table[HEADER + ENTRY * q + 3]) % MARKS;
+    let i = index(word(table, q, VALUE)) % MARKS;
     marks[i] = 1;
 }
 
@@ -123,7 +126,7 @@ pub fn list_ok(table: &[u32], classes: &[u32], body: &[u32], n: usize, p: usize)
     if class_at(table, classes, body, n, p + 1 + k) != class::ESW {
         return false;
     }
-    are_distinct(table, table[HEADER + ENTRY * p + 6], p + 1, k)
+    are_distinct(table, word(table, p, VALUE_TWO), p + 1, k)
 }
 
 // The default of the BSW at p stays in its body.
@@ -131,7 +134,7 @@ pub fn default_ok(table: &[u32], classes: &[u32], body: &[u32], n: usize, p: usi
     requires { ⌜ Known (now table) (now classes) (now body) n × (p < n) ⌝ }
     ensures { λ r. ⌜ r ≡ Check.mayReach (now (table .entry)) p (target3 (now (table .entry)) p) ⌝ }
 {
-    let three = index(table[HEADER + ENTRY * p + 7]);
+    let three = index(word(table, p, THIRD));
     may_reach(table, classes, body, n, p, three)
 }
 

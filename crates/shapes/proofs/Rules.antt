@@ -13,9 +13,8 @@ use Rattle.base.specs.Test.{_and_, _or_, if}
 use Rattle.ops.specs.Class.{Class, Marker, executes, marks, none, is, classCode, JSR, BSW, EXI, IFF, PPM, ERR, ESW, PRC, ENP}
 use Rattle.ops.specs.Format.{noKind}
 use Rattle.rules.specs.Check.{reaches, mayReach, mustReach, globalTarget, isExit, belowExit, belowIff, exitNumberOk, holds, flowRules, markerRules, outside}
-use Rattle.rules.specs.Table.{size, classAt, field, value, declared, procedure, target1, target2, target3, bodyAt, bodyAfter}
+use Rattle.rules.specs.Table.{size, classAt, field, value, declared, procedure, target3, bodyAt, bodyAfter}
 use Rattle.table_layout.proofs.Belows.{and-true}
-use Rattle.shape_core.specs.Known.{targetOf}
 use Rattle.shape_core.proofs.Codes.{is-code}
 use Rattle.shape_core.proofs.Tests.{and-no, and-yes, and-none, or-no, or-yes}
 
@@ -23,30 +22,20 @@ module _ (t : List ℕ) (p : ℕ) (b : Bool) where
   pub goes-is : b ≡ reaches t p (p + 1) → reaches t p (suc p) ≡ b
   goes-is e = sym (e ∙ rw (add-one p) refl)
 
-  module _ (x : ℕ) where
-    pub may1 : x ≡ targetOf (getD t (8 + 8 * p + 1) 0) (getD t (8 + 8 * p + 3) 0) → b ≡ mayReach t p x → mayReach t p (target1 t p) ≡ b
-    unfolding target1 targetOf field
-    may1 q e = sym (e ∙ ap (mayReach t p) q)
+  -- the code's x is the target y
+  module _ {x y : ℕ} (q : x ≡ y) where
+    pub may : b ≡ mayReach t p x → mayReach t p y ≡ b
+    may e = sym (e ∙ ap (mayReach t p) q)
 
-    pub may2 : x ≡ targetOf (getD t (8 + 8 * p + 4) 0) (getD t (8 + 8 * p + 6) 0) → b ≡ mayReach t p x → mayReach t p (target2 t p) ≡ b
-    unfolding target2 targetOf field
-    may2 q e = sym (e ∙ ap (mayReach t p) q)
+    pub must : b ≡ mustReach t p x → mustReach t p y ≡ b
+    must e = sym (e ∙ ap (mustReach t p) q)
 
-    pub may3 : x ≡ getD t (8 + 8 * p + 7) 0 → b ≡ mayReach t p x → mayReach t p (target3 t p) ≡ b
-    unfolding target3 field
-    may3 q e = sym (e ∙ ap (mayReach t p) q)
+    pub global : b ≡ globalTarget t x → globalTarget t y ≡ b
+    global e = sym (e ∙ ap (globalTarget t) q)
 
-    pub must1 : x ≡ targetOf (getD t (8 + 8 * p + 1) 0) (getD t (8 + 8 * p + 3) 0) → b ≡ mustReach t p x → mustReach t p (target1 t p) ≡ b
-    unfolding target1 targetOf field
-    must1 q e = sym (e ∙ ap (mustReach t p) q)
-
-    pub must2 : x ≡ targetOf (getD t (8 + 8 * p + 4) 0) (getD t (8 + 8 * p + 6) 0) → b ≡ mustReach t p x → mustReach t p (target2 t p) ≡ b
-    unfolding target2 targetOf field
-    must2 q e = sym (e ∙ ap (mustReach t p) q)
-
-    pub global1 : x ≡ targetOf (getD t (8 + 8 * p + 1) 0) (getD t (8 + 8 * p + 3) 0) → b ≡ globalTarget t x → globalTarget t (target1 t p) ≡ b
-    unfolding target1 targetOf field
-    global1 q e = sym (e ∙ ap (globalTarget t) q)
+  pub may3 : {x : ℕ} → x ≡ getD t (8 + 8 * p + 7) 0 → b ≡ mayReach t p x → mayReach t p (target3 t p) ≡ b
+  unfolding target3 field
+  may3 q e = may q e
 
 -- a procedure's PRC stands before the places in it
 after-below : (c : Class) (p b : ℕ) → b ≤ p → bodyAfter c p b ≤ suc p
@@ -74,12 +63,16 @@ module _ (t : List ℕ) (p b : ℕ) (e : b ≡ bodyAt t p) where
   numbered zero q h = absurd (h refl)
   numbered (suc d) q h = let z : suc d - 1 ≡ d = omega arith in rw z refl
 
-  pub exi-inside : (b ≡ 0 → ⊥)
+  inside : (b ≡ 0 → ⊥)
       → (leb (getD t (8 + 8 * p + 3) 0) (getD t (8 + 8 * (b - 1) + 3) 0) and (eqb (getD t (8 + 8 * p + 1) 0) noKind or ltb 0 (getD t (8 + 8 * p + 3) 0)))
       ≡ holds (flowRules t p EXI)
-  exi-inside h =
+  inside h =
       let pos : 0 < bodyAt t p = omega (arith, e, h) in
       numbered b e h ∙ ap (exitNumberOk t p) e ∙ sym (and-true _) ∙ ap (λ (x : Bool). exitNumberOk t p (bodyAt t p) and x) (sym (and-yes _ _ (lt-ltb _ _ pos)))
+
+  pub exi-inside : (b ≡ 0 → ⊥) → {v w k : ℕ} → v ≡ getD t (8 + 8 * p + 3) 0 → w ≡ getD t (8 + 8 * (b - 1) + 3) 0 → k ≡ getD t (8 + 8 * p + 1) 0
+      → (leb v w and (eqb k noKind or ltb 0 v)) ≡ holds (flowRules t p EXI)
+  exi-inside h x y z = rw (x, y, z) (inside h)
 
 -- the card above
 module _ (t : List ℕ) where

@@ -11,9 +11,8 @@ use shape_core::reach::class_at;
 use shape_core::reach::is_outside;
 use shape_core::reach::may_reach;
 use shape_core::reach::must_reach;
-use shape_core::reach::target;
-use table_layout::ENTRY;
-use table_layout::HEADER;
+use shape_core::reach::target_one;
+use shape_core::reach::target_two;
 use table_layout::index;
 
 // The card above is an exit card or a JSR.
@@ -53,7 +52,7 @@ pub fn ppm_ok(table: &[u32], classes: &[u32], body: &[u32], n: usize, p: usize) 
     if !below_exit(table, classes, body, n, p) {
         return false;
     }
-    let one = target(table[HEADER + ENTRY * p + 1], table[HEADER + ENTRY * p + 3]);
+    let one = target_one(table, p);
     may_reach(table, classes, body, n, p, one)
 }
 
@@ -73,7 +72,7 @@ pub fn iff_ok(table: &[u32], classes: &[u32], body: &[u32], n: usize, p: usize) 
     if !below_iff(table, classes, body, n, p) {
         return false;
     }
-    let two = target(table[HEADER + ENTRY * p + 4], table[HEADER + ENTRY * p + 6]);
+    let two = target_two(table, p);
     must_reach(table, classes, body, n, p, two)
 }
 

@@ -10,10 +10,13 @@ use shape_core::reach::is_outside;
 use shape_core::reach::may_reach;
 use shape_core::reach::must_reach;
 use shape_core::reach::reaches;
-use shape_core::reach::target;
-use table_layout::ENTRY;
-use table_layout::HEADER;
+use shape_core::reach::target_one;
+use shape_core::reach::target_two;
+use table_layout::KIND;
+use table_layout::THIRD;
+use table_layout::VALUE;
 use table_layout::index;
+use table_layout::word;
 
 // An operation that goes on has one right after it in its body that can be arrived at.
 pub fn goes_ok(table: &[u32], classes: &[u32], body: &[u32], n: usize, p: usize) -> bool
@@ -31,22 +34,16 @@ pub fn forks_ok(table: &[u32], classes: &[u32], body: &[u32], n: usize, p: usize
     if !reaches(table, classes, body, n, p, p + 1) {
         return false;
     }
-    let one = target(table[HEADER + ENTRY * p + 1], table[HEADER + ENTRY * p + 3]);
+    let one = target_one(table, p);
     if !may_reach(table, classes, body, n, p, one) {
         return false;
     }
-    let two = target(table[HEADER + ENTRY * p + 4], table[HEADER + ENTRY * p + 6]);
+    let two = target_two(table, p);
     if !may_reach(table, classes, body, n, p, two) {
         return false;
     }
-    may_reach(
-        table,
-        classes,
-        body,
-        n,
-        p,
-        index(table[HEADER + ENTRY * p + 7]),
-    )
+    let three = index(word(table, p, THIRD));
+    may_reach(table, classes, body, n, p, three)
 }
 
 // BRN stays in its body.
@@ -54,7 +51,7 @@ pub fn brn_ok(table: &[u32], classes: &[u32], body: &[u32], n: usize, p: usize) 
     requires { ⌜ Known (now table) (now classes) (now body) n × (p < n) ⌝ }
     ensures { λ r. ⌜ r ≡ Check.holds (Check.flowRules (now (table .entry)) p BRN) ⌝ }
 {
-    let one = target(table[HEADER + ENTRY * p + 1], table[HEADER + ENTRY * p + 3]);
+    let one = target_one(table, p);
     must_reach(table, classes, body, n, p, one)
 }
 
@@ -63,7 +60,7 @@ pub fn jmg_ok(table: &[u32], classes: &[u32], body: &[u32], n: usize, p: usize) 
     requires { ⌜ Known (now table) (now classes) (now body) n × (p < n) ⌝ }
     ensures { λ r. ⌜ r ≡ Check.holds (Check.flowRules (now (table .entry)) p JMG) ⌝ }
 {
-    let one = target(table[HEADER + ENTRY * p + 1], table[HEADER + ENTRY * p + 3]);
+    let one = target_one(table, p);
     global_target(table, classes, body, n, one)
 }
 
@@ -88,11 +85,12 @@ pub fn exi_ok(table: &[u32], classes: &[u32], body: &[u32], n: usize, p: usize) 
         return false;
     }
     let q = b - 1;
-    if table[HEADER + ENTRY * q + 3] < table[HEADER + ENTRY * p + 3] {
+    let v = word(table, p, VALUE);
+    if word(table, q, VALUE) < v {
         return false;
     }
-    if table[HEADER + ENTRY * p + 1] == NO_KIND {
+    if word(table, p, KIND) == NO_KIND {
         return true;
     }
-    0 < table[HEADER + ENTRY * p + 3]
+    0 < v
 }

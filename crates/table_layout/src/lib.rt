@@ -1,7 +1,7 @@
 // The layout of a table: limits, exact length, sections, fresh addresses and exit counts [S The table].
 ghost use mathlib.Core.Path.{_≡_};
 ghost use mathlib.Core.Bool.{true};
-ghost use Prim.Native.Nat.{_+_, _*_, _≤_};
+ghost use Prim.Native.Nat.{_+_, _*_, _≤_, _<_};
 ghost use lib.Dec.{eqb};
 ghost use lib.ListN.{length, getD};
 ghost use Rattle.rules.specs.Check.{limitsOk, sectionsOk, freshOk, countsOk, layoutOk};
@@ -13,6 +13,17 @@ use ops::constants::Machine;
 pub const HEADER: usize = bodies::entry::HEADER;
 
 pub const ENTRY: usize = bodies::entry::ENTRY;
+
+// Words of an entry after its operation: the kind and the value of operand one, the same of operand two, the third operand.
+pub const KIND: usize = bodies::entry::KIND;
+
+pub const VALUE: usize = bodies::entry::VALUE;
+
+pub const KIND_TWO: usize = 4;
+
+pub const VALUE_TWO: usize = 6;
+
+pub const THIRD: usize = 7;
 
 // Bytes of a word, as an index.
 const BYTES: usize = Machine::CFP_B as usize;
@@ -29,6 +40,14 @@ pub fn sum(x: u32, y: u32) -> usize
     ensures { λ r. ⌜ r ≡ x + y ⌝ }
 {
     x as usize + y as usize
+}
+
+// Word k of the entry at place p [S The table].
+pub fn word(table: &[u32], p: usize, k: usize) -> u32
+    requires { ⌜ 8 + 8 * p + k < length (now table) ⌝ }
+    ensures { λ r. ⌜ r ≡ getD (now (table .entry)) (8 + 8 * p + k) 0 ⌝ }
+{
+    table[HEADER + ENTRY * p + k]
 }
 
 // The header's counts are within their limits [S Numbers the host sees].

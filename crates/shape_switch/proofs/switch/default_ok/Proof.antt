@@ -7,51 +7,26 @@ use Rattle.shape_switch.proofs.switch.default_ok.Statement.{statement}
 use Rattle.shape_switch.proofs.switch.default_ok.Tie as tie
 use Rattle.shape_switch.proofs.switch.default_ok.Reads as reads
 use Rattle.shape_switch.proofs.switch.default_ok.Lts as lts
-use Rattle.table_layout.proofs.index.Reads as index-reads
 use Rattle.shape_core.proofs.reach.may_reach.Reads as may-reach-reads
+use Rattle.table_layout.proofs.index.Reads as index-reads
+use Rattle.table_layout.proofs.word.Reads as word-reads
 
--- src/switch.rt:134:38
-mul-index : tie.Need-mul-index
-mul-index c = search needs
+-- src/switch.rt:137:23
+word-requires : tie.Need-word-requires
+word-requires c κs = search needs
 
--- src/switch.rt:134:29
-add-index : tie.Need-add-index
-add-index c = search needs
-
--- src/switch.rt:134:29
-add-index-2 : tie.Need-add-index-2
-add-index-2 c = search needs
-
--- src/switch.rt:134:23
-mul-index-2 : tie.Need-mul-index-2
-mul-index-2 c = search needs
-
--- src/switch.rt:134:23
-shared-slice-read-index : tie.Need-shared-slice-read-index
-shared-slice-read-index c = search needs
-
--- src/switch.rt:134:9
+-- src/switch.rt:137:9
 index-requires : tie.Need-index-requires
 index-requires c κs = search needs
 
--- src/switch.rt:135:5
+-- src/switch.rt:138:5
 may-reach-requires : tie.Need-may-reach-requires
 may-reach-requires c κs = search needs
 
--- src/switch.rt:130:1
+-- src/switch.rt:133:1
 returns : tie.Need-returns
 unfolding target3 field
-returns c = c .may-reach .ensures ∙ rw (c .before .index .ensures) refl
+returns c = c .may-reach .ensures ∙ rw (c .before .index .ensures ∙ c .before .before .word .ensures) refl
 
 pub default-ok-spec : {M : Type 1} → statement M
-default-ok-spec =
-    tie.close
-    (tie.spec
-    mul-index
-    add-index
-    add-index-2
-    mul-index-2
-    shared-slice-read-index
-    index-requires
-    may-reach-requires
-    returns)
+default-ok-spec = tie.close (tie.spec word-requires index-requires may-reach-requires returns)

@@ -9,98 +9,59 @@ use Rattle.shape_switch.proofs.switch.is_fresh.Statement.{statement}
 use Rattle.shape_switch.proofs.switch.is_fresh.Tie as tie
 use Rattle.shape_switch.proofs.switch.is_fresh.Reads as reads
 use Rattle.shape_switch.proofs.switch.is_fresh.Lts as lts
-use Rattle.table_layout.proofs.index.Reads as index-reads
 use Rattle.shape_switch.proofs.switch.unlike.Reads as unlike-reads
+use Rattle.table_layout.proofs.index.Reads as index-reads
+use Rattle.table_layout.proofs.word.Reads as word-reads
 
--- src/switch.rt:73:23
-mul-if1 : tie.Need-mul-if1
-mul-if1 c = search needs
+-- src/switch.rt:76:8
+word-requires : tie.Need-word-requires
+word-requires c κs = search needs
 
--- src/switch.rt:73:14
-add-if1 : tie.Need-add-if1
-add-if1 c = search needs
-
--- src/switch.rt:73:14
-add-if1-2 : tie.Need-add-if1-2
-add-if1-2 c = search needs
-
--- src/switch.rt:73:8
-mul-if1-2 : tie.Need-mul-if1-2
-mul-if1-2 c = search needs
-
--- src/switch.rt:73:8
-shared-slice-read-if1 : tie.Need-shared-slice-read-if1
-shared-slice-read-if1 c = search needs
-
--- src/switch.rt:74:9
+-- src/switch.rt:77:9
 returns : tie.Need-returns
-returns c = fresh-unknown (c .before .before .before .before .args .table .now) (c .before .before .before .before .args .q) (c .before .before .before .before .args .limit) (c .before .before .before .before .args .k) (c .if1 .taken)
+returns c = fresh-unknown (c .before .before .before .before .args .table .now) (c .before .before .before .before .args .q) (c .before .word .ensures) (c .before .before .before .before .args .limit) (c .before .before .before .before .args .k) (c .if1 .taken)
 
--- src/switch.rt:76:28
-mul-v : tie.Need-mul-v
-mul-v c = search needs
+-- src/switch.rt:79:9
+word-requires-2 : tie.Need-word-requires-2
+word-requires-2 c κs = search needs
 
--- src/switch.rt:76:19
-add-v : tie.Need-add-v
-add-v c = search needs
-
--- src/switch.rt:76:19
-add-v-2 : tie.Need-add-v-2
-add-v-2 c = search needs
-
--- src/switch.rt:76:13
-mul-v-2 : tie.Need-mul-v-2
-mul-v-2 c = search needs
-
--- src/switch.rt:76:13
-shared-slice-read-v : tie.Need-shared-slice-read-v
-shared-slice-read-v c = search needs
-
--- src/switch.rt:78:9
+-- src/switch.rt:81:9
 returns-2 : tie.Need-returns-2
-returns-2 c = fresh-past (c .before .before .before .before .before .before .args .table .now) (c .before .before .before .before .before .before .args .q) (c .before .before .before .before .before .before .args .limit) (c .before .before .before .before .before .before .args .k) (c .before .before .if1 .left) (c .if2 .taken)
+returns-2 c = fresh-past (c .before .before .before .before .before .before .args .table .now) (c .before .before .before .before .before .before .args .q) (c .before .before .before .word .ensures) (c .before .word2 .ensures) (c .before .before .before .before .before .before .args .limit) (c .before .before .before .before .before .before .args .k) (c .before .before .if1 .left) (c .if2 .taken)
 
--- src/switch.rt:80:13
+-- src/switch.rt:83:13
 index-requires : tie.Need-index-requires
 index-requires c κs = search needs
 
--- src/switch.rt:81:8
+-- src/switch.rt:84:8
 shared-slice-read-if3 : tie.Need-shared-slice-read-if3
 shared-slice-read-if3 c = search needs
 
--- src/switch.rt:82:9
+-- src/switch.rt:85:9
 returns-3 : tie.Need-returns-3
 returns-3 c =
     sym (c .before .before .before .before .before .before .before .before .before .pre .2 .clear _ (subst (λ (x : ℕ). getD (c .before .before .before .before .before .before .before .before .before .args .marks .now) (x % 1024) 0 ≡ 0) (c .before .before .index .ensures) (c .if3 .taken)))
-    ∙ fresh-known (c .before .before .before .before .before .before .before .before .before .args .table .now) (c .before .before .before .before .before .before .before .before .before .args .q) (c .before .before .before .before .before .before .before .before .before .args .limit) (c .before .before .before .before .before .before .before .before .before .args .k) (c .before .before .before .before .before .if1 .left) (c .before .before .before .if2 .left)
+    ∙ fresh-known (c .before .before .before .before .before .before .before .before .before .args .table .now) (c .before .before .before .before .before .before .before .before .before .args .q) (c .before .before .before .before .before .before .word .ensures) (c .before .before .before .before .word2 .ensures) (c .before .before .before .before .before .before .before .before .before .args .limit) (c .before .before .before .before .before .before .before .before .before .args .k) (c .before .before .before .before .before .if1 .left) (c .before .before .before .if2 .left)
 
--- src/switch.rt:84:22
+-- src/switch.rt:87:22
 add-unlike : tie.Need-add-unlike
 add-unlike c = search needs
 
--- src/switch.rt:84:5
+-- src/switch.rt:87:5
 unlike-requires : tie.Need-unlike-requires
 unlike-requires c κs = search needs
 
--- src/switch.rt:69:1
+-- src/switch.rt:72:1
 returns-4 : tie.Need-returns-4
-returns-4 c = c .unlike .ensures ∙ fresh-known (c .before .before .before .before .before .before .before .before .before .before .args .table .now) (c .before .before .before .before .before .before .before .before .before .before .args .q) (c .before .before .before .before .before .before .before .before .before .before .args .limit) (c .before .before .before .before .before .before .before .before .before .before .args .k) (c .before .before .before .before .before .before .if1 .left) (c .before .before .before .before .if2 .left)
+returns-4 c = c .unlike .ensures ∙ fresh-known (c .before .before .before .before .before .before .before .before .before .before .args .table .now) (c .before .before .before .before .before .before .before .before .before .before .args .q) (c .before .before .before .before .before .before .before .word .ensures) (c .before .before .before .before .before .word2 .ensures) (c .before .before .before .before .before .before .before .before .before .before .args .limit) (c .before .before .before .before .before .before .before .before .before .before .args .k) (c .before .before .before .before .before .before .if1 .left) (c .before .before .before .before .if2 .left)
 
 pub is-fresh-spec : {M : Type 1} → statement M
 is-fresh-spec =
     tie.close
     (tie.spec
-    mul-if1
-    add-if1
-    add-if1-2
-    mul-if1-2
-    shared-slice-read-if1
+    word-requires
     returns
-    mul-v
-    add-v
-    add-v-2
-    mul-v-2
-    shared-slice-read-v
+    word-requires-2
     returns-2
     index-requires
     shared-slice-read-if3

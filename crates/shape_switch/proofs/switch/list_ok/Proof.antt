@@ -10,62 +10,47 @@ use Rattle.shape_switch.proofs.switch.list_ok.Lts as lts
 use Rattle.shape_core.proofs.reach.class_at.Reads as class-at-reads
 use Rattle.shape_switch.proofs.switch.are_distinct.Reads as are-distinct-reads
 use Rattle.shape_switch.proofs.switch.count_iffs.Reads as count-iffs-reads
+use Rattle.table_layout.proofs.word.Reads as word-reads
 
--- src/switch.rt:122:49
+-- src/switch.rt:125:49
 add-count-iffs : tie.Need-add-count-iffs
 add-count-iffs c = search needs
 
--- src/switch.rt:122:9
+-- src/switch.rt:125:9
 count-iffs-requires : tie.Need-count-iffs-requires
 count-iffs-requires c κs = search needs
 
--- src/switch.rt:123:42
+-- src/switch.rt:126:42
 add-class-at : tie.Need-add-class-at
 add-class-at c = search needs
 
--- src/switch.rt:123:42
+-- src/switch.rt:126:42
 add-class-at-2 : tie.Need-add-class-at-2
 add-class-at-2 c = search needs
 
--- src/switch.rt:123:8
+-- src/switch.rt:126:8
 class-at-requires : tie.Need-class-at-requires
 class-at-requires c κs = search needs
 
--- src/switch.rt:124:9
+-- src/switch.rt:127:9
 returns : tie.Need-returns
 returns c = switch-open (c .before .before .before .before .before .before .args .table .now) (c .before .before .before .before .before .before .args .p) (c .before .before .count-iffs .result) (c .before .class-at .result) (c .before .before .count-iffs .ensures .all) (c .before .class-at .ensures) (c .if1 .taken)
 
--- src/switch.rt:126:40
-mul-are-distinct : tie.Need-mul-are-distinct
-mul-are-distinct c = search needs
+-- src/switch.rt:129:25
+word-requires : tie.Need-word-requires
+word-requires c κs = search needs
 
--- src/switch.rt:126:31
+-- src/switch.rt:129:52
 add-are-distinct : tie.Need-add-are-distinct
 add-are-distinct c = search needs
 
--- src/switch.rt:126:31
-add-are-distinct-2 : tie.Need-add-are-distinct-2
-add-are-distinct-2 c = search needs
-
--- src/switch.rt:126:25
-mul-are-distinct-2 : tie.Need-mul-are-distinct-2
-mul-are-distinct-2 c = search needs
-
--- src/switch.rt:126:25
-shared-slice-read-are-distinct : tie.Need-shared-slice-read-are-distinct
-shared-slice-read-are-distinct c = search needs
-
--- src/switch.rt:126:56
-add-are-distinct-3 : tie.Need-add-are-distinct-3
-add-are-distinct-3 c = search needs
-
--- src/switch.rt:126:5
+-- src/switch.rt:129:5
 are-distinct-requires : tie.Need-are-distinct-requires
 are-distinct-requires c κs = search needs
 
--- src/switch.rt:118:1
+-- src/switch.rt:121:1
 returns-2 : tie.Need-returns-2
-returns-2 c = c .are-distinct .ensures ∙ switch-closed (c .before .before .before .before .before .before .before .before .args .table .now) (c .before .before .before .before .before .before .before .before .args .p) (c .before .before .before .before .count-iffs .result) (c .before .before .before .class-at .result) (c .before .before .before .before .count-iffs .ensures .all) (c .before .before .before .class-at .ensures) (c .before .before .if1 .left)
+returns-2 c = c .are-distinct .ensures ∙ switch-closed (c .before .before .before .before .before .before .before .before .args .table .now) (c .before .before .before .before .before .before .before .before .args .p) (c .before .before .before .before .count-iffs .result) (c .before .before .before .class-at .result) (c .before .before .before .before .count-iffs .ensures .all) (c .before .before .before .class-at .ensures) (c .before .before .if1 .left) (c .before .word .ensures)
 
 pub list-ok-spec : {M : Type 1} → statement M
 list-ok-spec =
@@ -77,11 +62,7 @@ list-ok-spec =
     add-class-at-2
     class-at-requires
     returns
-    mul-are-distinct
+    word-requires
     add-are-distinct
-    add-are-distinct-2
-    mul-are-distinct-2
-    shared-slice-read-are-distinct
-    add-are-distinct-3
     are-distinct-requires
     returns-2)

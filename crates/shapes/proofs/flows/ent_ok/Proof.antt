@@ -1,7 +1,7 @@
 -- `shapes::flows::ent_ok` meets its contract: each return rewrites with the tests that led there.
 -- Assumes nothing.
 use Rattle.shape_core.proofs.Tests.{and-no, and-yes, or-no, or-yes}
-use Rattle.shapes.proofs.Rules.{goes-is, may1, may2, may3, must1, must2, global1, body-below, exi-outside, exi-inside}
+use Rattle.shapes.proofs.Rules.{goes-is, may, may3, must, global, body-below, exi-outside, exi-inside}
 use Rattle.table_layout.proofs.Belows.{and-true}
 use Rattle.base.specs.Test.{_and_, _or_, if}
 use borrow.Author.Tests.{eq-eqb, ne-eqb, lt-ltb, le-ltb, le-leb, lt-leb, not-true, not-false}
