@@ -9,10 +9,10 @@ use Rattle.base.specs.Test.{if}
 use Rattle.rules.specs.Number.{Verdict, granted, refusedBy, badState}
 use Rattle.rules.specs.Check.{tableOk}
 use Rattle.rules.specs.State.{stateOk}
-use Rattle.states.specs.Admit.{admitted}
+use Rattle.admission.specs.Admit.{admitted}
 use Rattle.states.specs.Views.{stateOf}
 use Rattle.states.specs.declared.State.{State}
-use Rattle.states.proofs.Admits.{admit-granted, admit-no-state}
+use Rattle.admission.proofs.Admits.{admit-granted, admit-no-state}
 use Rattle.host.specs.Answer.{tableNumber, admittedWords, stateNumber, verdictNumber}
 use Rattle.lent.specs.Lent.{lawful, stateFrom, codeFrom}
 

@@ -19,7 +19,7 @@ use Rattle.rules.specs.Start as Start
 use Rattle.rules.specs.Start.{begun, startOf, unbegun}
 use Rattle.states.specs.declared.State.{State}
 use Rattle.states.specs.Views.{codeOf, stateOf}
-use Rattle.states.proofs.Admits.{skip, stop}
+use Rattle.admission.proofs.Admits.{skip, stop}
 use Rattle.starting.specs.Answers as Starting
 use Rattle.starting.specs.declared.Answer.{Answer}
 use Rattle.starting.specs.declared.Answer.the-variants as starts

@@ -28,7 +28,7 @@ use Rattle.snapshot.specs.declared.waking.Restored.{Restored}
 use Rattle.snapshot.specs.declared.writing.Written.{Written}
 use Rattle.snapshot.specs.declared.writing.Written.the-variants as written
 use Rattle.snapshot.specs.declared.writing.Written.the-variants.{Filled, BadState, ShortRoom}
-use Rattle.states.proofs.Admits.{skip, stop}
+use Rattle.admission.proofs.Admits.{skip, stop}
 use Rattle.lent.specs.Lent.{lawful, codeFrom, stateFrom, wordsFrom}
 use Rattle.host.specs.Freezing.{HostRestores, HostWrites, fileNumber, restoreWords, wokenNumber, wordsAfter, writeWords}
 use Rattle.host_numbers.specs.Numbers.{numberOf, numberWritten, upper}

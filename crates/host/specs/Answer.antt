@@ -7,7 +7,7 @@ use mathlib.Core.List.{List}
 use Rattle.base.specs.Test.{if}
 use Rattle.rules.specs.Number.{Verdict, granted, refusedBy, refusalNumber, badTable, badState}
 use Rattle.rules.specs.Check.{tableOk}
-use Rattle.states.specs.Admit.{admitted}
+use Rattle.admission.specs.Admit.{admitted}
 use Rattle.lent.specs.Lent.{lawful, stateFrom}
 
 abbrev pub verdictNumber : Verdict → ℕ

@@ -21,11 +21,14 @@ use Rattle.language.specs.Symbol.{declaredSort, placedSort, sortAt, fiel
 use Rattle.language.specs.Operand.{registerKind, takes, valueWithin, displaced, symbolBy, summed, subtracted, signedWithin, operandOf, operandsOf, outcomes}
 use Rattle.language.specs.Image.{symbolAt, symbolsFrom, symbolsOf, firstOperand, rowEntry, entryIn, isFresh, wordsIn, startsIn, freshIn, countsIn, header, image}
 use Rattle.language.specs.Fault.{deckWith, deckIn, deckOf, bytesPrinted, lineShort, labelReadable, formsOf, operandsFormed, remarkThere, textDelimited, inItsSection, isLabelled, labelThere, labelWanted, labelOnce, noSurplus, operandsFit, commaThere, textThere, symbolsDefined, procedureDeclared, routineDeclared, countKnown, isJudged, looseFault, placeFault, shapeFault, conditions, faultOf}
-use Rattle.language.specs.Answer.{firstFault, isClosed, isComplete, isWithin, limitsKept, finished, judged, answerOf, leftOf}
+use Rattle.language.specs.Answer.{assembled, refused, incomplete, overLimit, shortRoom, firstFault, isClosed, isComplete, isWithin, limitsKept, finished, judged, answerOf, leftOf}
 
--- too few operands, and an EQU symbol of its own line
+-- too few operands; an EQU symbol of its own line, and of two lines with a fault the first
 abbrev samples : List Case
-samples = card 4 " MOV WA" ∷ case 5 3 (deck [] ("THREE EQU THREE" ∷ []) [] [] ("START BRN START" ∷ [])) ∷ []
+samples =
+    card 4 " MOV WA"
+    ∷ case 5 3 (deck [] ("THREE EQU THREE" ∷ "FOURS EQU FOURS,1" ∷ []) [] [] ("START BRN START" ∷ []))
+    ∷ []
 
 sample-decks : failing 0 samples ≡ []
 unfolding failingBy answerBy namedIn withRemainder lookUp operationBy walkBy _and_ _or_ if member same rows supplies suppliedOf textWords size constants workings freshCount externals section4 section5 section6 freshAt exitCount startWord tableLength field classAt value target1 target2 target3 executable bodyAt namesProcedure namesExternal callee declared smaller among registerOk valueOk operandOk thirdOk fieldsOk apart outside reaches isOutside startsSection allExits exitList iffs valueKnown unlike distinctIffs switchList exitNumberOk faultAt rulesHold sectionsOk freshOk countsOk limitsOk layoutOk tableOk between parts lines labelEnd operationStart operationEnd operandStart tailOf fieldOf isEmpty symbolOf numberOf registerOf labelOf labelFormed isSkipped isDivider wantsLabel isLabelless barsLabel formatsOf hasText singleForm indexedForm combinedForm signedForm markedForm formOf textsIn writtenForms hasComma hasRemark delimitedBy quoted holdsPlace ofWords isOneWord wordCount isExternal openedPast past declaredSort placedSort sortAt fieldsNamed firstPlace globalMeaning meaning allPlaced above pairs registerKind takes valueWithin displaced symbolBy summed subtracted signedWithin operandOf operandsOf outcomes symbolAt symbolsFrom symbolsOf firstOperand rowEntry entryIn isFresh wordsIn startsIn freshIn countsIn header image deckWith deckIn bytesPrinted lineShort labelReadable formsOf operandsFormed remarkThere textDelimited inItsSection isLabelled labelThere labelWanted labelOnce noSurplus operandsFit commaThere textThere symbolsDefined procedureDeclared routineDeclared countKnown isJudged looseFault placeFault shapeFault conditions faultOf firstFault isClosed isComplete isWithin limitsKept finished judged leftOf
@@ -37,3 +40,10 @@ pub limits-by-count :
     ≡ true ∷ false ∷ false ∷ false ∷ false ∷ []
 unfolding _and_ isWithin
 limits-by-count = refl
+
+-- what is missing before a limit that is passed, that before room for a word less than the table has
+pub refusals-in-order :
+    finished false false 9 8 ∷ finished true false 9 8 ∷ finished true true 9 8 ∷ finished true true 9 9 ∷ []
+    ≡ refused incomplete ∷ refused overLimit ∷ refused shortRoom ∷ assembled 9 ∷ []
+unfolding finished if
+refusals-in-order = refl

@@ -2,13 +2,13 @@
 // Any table, memory and state may be lent. A refusal changes no lent word and leaves the state as it is. Refusals are judged in the order
 // of their numbers: 30, 31, 32.
 ghost use Rattle.resuming.specs.Answers.{Runs};
+use admission::Admission;
+use admission::check_state;
 use resuming::answers::Answer;
 use resuming::answers::Ran;
 use resuming::answers::refused;
 use running::run_passed;
 use states::State;
-use states::admit::Admission;
-use states::admit::check_state;
 
 pub mod running;
 pub mod steps;

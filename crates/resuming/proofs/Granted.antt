@@ -19,7 +19,7 @@ use Rattle.rules.proofs.Canonical.{Clean, answer-clean, canonical-own, own-cano
 use Rattle.rules.proofs.Files.{bit-le}
 use Rattle.rules.proofs.Runs.{call-ok}
 use Rattle.rules.proofs.Steps.{parts, sound}
-use Rattle.states.specs.Admit.{admitted}
+use Rattle.admission.specs.Admit.{admitted}
 use Rattle.states.specs.Views.{codeOf, stateOf}
 use Rattle.states.specs.declared.State.{State}
 use Rattle.states.proofs.Coded.{code-view}

@@ -2,10 +2,10 @@
 // [S Numbers the host sees]. Any table, memory and state may be lent. A refusal leaves the state as it is. Refusals are judged in the order of
 // their numbers: 30, 31, 33.
 ghost use Rattle.resuming.specs.Answers.{Resumes};
+use admission::Admission;
+use admission::check_state;
 use answers::Answer;
 use states::State;
-use states::admit::Admission;
-use states::admit::check_state;
 use waiting::Resumed;
 use waiting::declined;
 use waiting::resume_passed;

@@ -13,7 +13,7 @@ use Rattle.rules.specs.State.{State, stateOk}
 use Rattle.rules.specs.Table.{freshCount}
 use Rattle.rules.specs.Snapshot.{fileLength, fileOf, filled, unwritten, writeOf}
 use Rattle.rules.proofs.Files.{length-fileOf}
-use Rattle.states.proofs.Admits.{skip, stop}
+use Rattle.admission.proofs.Admits.{skip, stop}
 use Rattle.snapshot.specs.Answers.{Writes}
 use Rattle.snap_core.specs.Buffers.{put}
 use Rattle.snapshot.specs.declared.writing.Written.the-variants.{BadState, BadTable, Filled, ShortRoom}

@@ -20,7 +20,7 @@ use Rattle.rules.proofs.Files.{state-limits}
 use Rattle.rules.proofs.Restores.{wakes-restore}
 use Rattle.states.specs.declared.State.{State}
 use Rattle.states.specs.Views.{codeOf}
-use Rattle.states.proofs.Admits.{skip, stop}
+use Rattle.admission.proofs.Admits.{skip, stop}
 use Rattle.snapshot.specs.Answers.{Restores, answerOf, refusing}
 use Rattle.snapshot.specs.declared.waking.Answer.{Answer}
 use Rattle.snapshot.specs.declared.waking.Answer.the-variants.{Woken, BadTable, BadTrailer, OtherProgram, BadFrozen, FreshCountOff, MemoryLengthOff}

@@ -15,7 +15,7 @@ use Rattle.rules.specs.Check.{tableOk}
 use Rattle.rules.specs.Table.{constants, freshCount, workings}
 use Rattle.rules.specs.Start.{begun, unbegun, loaded, started, startOf}
 use Rattle.states.specs.Views.{codeOf, freshOf, stateOf}
-use Rattle.states.proofs.Admits.{skip, stop}
+use Rattle.admission.proofs.Admits.{skip, stop}
 use Rattle.states.proofs.Coded.{code-view, fresh-view}
 use Rattle.states.proofs.Laws.{memory-of}
 use Rattle.starting.specs.Answers.{Starts, refusing, verdictOf}

@@ -1,4 +1,3 @@
-pub mod Admits
 pub mod Called
 pub mod Chained
 pub mod Coded

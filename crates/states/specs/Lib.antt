@@ -1,3 +1,2 @@
-pub mod Admit
 pub mod Checked
 pub mod Views

@@ -11,7 +11,6 @@ use bodies::entry::CONSTANTS;
 use bodies::entry::WORKINGS;
 use ops::constants::Machine;
 
-pub mod admit;
 pub mod calls;
 pub mod chain;
 pub mod passing;

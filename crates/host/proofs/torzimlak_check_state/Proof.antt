@@ -1,6 +1,6 @@
 -- `host::torzimlak_check_state` meets its contract: the table's check, then the words', then the state's.
 -- Assumes nothing.
-use Rattle.states.proofs.Admits.{table-passed}
+use Rattle.admission.proofs.Admits.{table-passed}
 use Rattle.host.proofs.Answers.{words-no-table, words-no-words, words-granted, words-no-state}
 use Rattle.lent.proofs.Links.{lawful-enough}
 use borrow.Author.Needs.{needs}

@@ -2,7 +2,7 @@
 -- Assumes nothing.
 use mathlib.Core.Path.{sym, _∙_}
 use borrow.Author.Tests.{not-true, not-false}
-use Rattle.states.proofs.Admits.{table-passed}
+use Rattle.admission.proofs.Admits.{table-passed}
 use Rattle.host.proofs.Freezes.{host-unwoken-table, host-unwoken-words, host-woken, host-unwoken}
 use borrow.Author.Needs.{needs}
 use Rattle.host.proofs.torzimlak_restore.Statement.{statement}

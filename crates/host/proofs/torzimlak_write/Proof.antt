@@ -2,7 +2,7 @@
 -- Assumes nothing.
 use mathlib.Core.Path.{sym, _∙_}
 use borrow.Author.Tests.{not-true, not-false}
-use Rattle.states.proofs.Admits.{table-passed}
+use Rattle.admission.proofs.Admits.{table-passed}
 use Rattle.host.proofs.Freezes.{host-unwritten-table, host-unwritten-words, host-written}
 use Rattle.lent.proofs.Links.{lawful-enough}
 use borrow.Author.Needs.{needs}

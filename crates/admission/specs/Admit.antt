@@ -9,8 +9,8 @@ use Rattle.rules.specs.Number.{Verdict, granted, refusedBy, badTable, badState}
 use Rattle.rules.specs.Check.{tableOk}
 use Rattle.rules.specs.State as Rules
 use Rattle.rules.specs.State.{stateOk}
-use Rattle.states.specs.declared.admit.Admission.{Admission}
-use Rattle.states.specs.declared.admit.Admission.the-variants as admission
+use Rattle.admission.specs.declared.Admission.{Admission}
+use Rattle.admission.specs.declared.Admission.the-variants as admission
 
 -- 30, then 31 [S Numbers the host sees]
 unfoldable pub admitted : List ℕ → Rules.State → Verdict

@@ -1,11 +1,11 @@
--- `states::admit::check_state` meets its contract: the table's check first, then the state's. Assumes nothing.
+-- `admission::check_state` meets its contract: the table's check first, then the state's. Assumes nothing.
 use borrow.Author.Needs.{needs}
-use Rattle.states.proofs.Admits.{table-passed, admit-no-table, admit-granted, admit-no-state}
-use Rattle.states.proofs.admit.check_state.Statement.{statement}
-use Rattle.states.proofs.admit.check_state.Tie as tie
-use Rattle.states.proofs.admit.check_state.Reads as reads
-use Rattle.states.proofs.admit.check_state.Lts as lts
+use Rattle.admission.proofs.Admits.{table-passed, admit-no-table, admit-granted, admit-no-state}
+use Rattle.admission.proofs.check_state.Statement.{statement}
+use Rattle.admission.proofs.check_state.Tie as tie
+use Rattle.admission.proofs.check_state.Reads as reads
+use Rattle.admission.proofs.check_state.Lts as lts
 use Rattle.states.proofs.passing.state_ok.Reads as state-ok-reads
 use Rattle.tables.proofs.check_table.Reads as check-table-reads
 
 check-table-requires : tie.Need-check-table-requires

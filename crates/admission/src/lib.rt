@@ -3,10 +3,10 @@ ghost use mathlib.Core.Path.{_≡_};
 ghost use mathlib.Core.List.{List};
 ghost use Prim.Native.Nat.{ℕ};
 ghost use lib.ListN.{length};
-ghost use Rattle.states.specs.Admit.{admitted, verdictOf};
+ghost use Rattle.admission.specs.Admit.{admitted, verdictOf};
 ghost use Rattle.states.specs.Views.{stateOf};
-use super::State;
-use super::passing::state_ok;
+use states::State;
+use states::passing::state_ok;
 use tables::check_table;
 
 // What the checks find: both pass, or the first that fails.
