@@ -7,11 +7,11 @@ use mathlib.Core.List.{List}
 use borrow.Author.Tests.{not-true, not-false}
 use Rattle.base.specs.Test.{if, Ok}
 use Rattle.base.proofs.Bool.{passed}
-use Rattle.rules.specs.Number.{Verdict, granted, refusedBy, badTable, badState}
+use Rattle.rules.specs.Number.{granted, refusedBy, badTable, badState}
 use Rattle.rules.specs.Check.{tableOk}
 use Rattle.rules.specs.State as Rules
 use Rattle.rules.specs.State.{stateOk}
-use Rattle.admission.specs.Admit.{admitted}
+use Rattle.rules.specs.Run.{admitted}
 
 -- a test that passes is passed over, and one that does not is the answer
 pub skip : {A : Type 0} (b : Bool) (r x : A) → b ≡ true → if (not b) r x ≡ x

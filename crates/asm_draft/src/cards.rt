@@ -36,7 +36,7 @@ use ops::table;
 use ops::table::Operations;
 
 // NGI stands for an operation that is not known: it goes on.
-const STAND_IN: u32 = 408;
+const NGI: u32 = 408;
 
 // The entry of a card whose operation has a row.
 fn row_entry(list: &Operations, c: Card, s: &[u8], syms: &[u64], n: usize) -> [u32; 8]
@@ -68,7 +68,7 @@ fn entry_by(list: &Operations, c: Card, s: &[u8], syms: &[u64], n: usize) -> [u3
 {
     let o = c.operation;
     if code_of(o) != codes::OPERATES {
-        return [STAND_IN, 0, 0, 0, 0, 0, 0, 0];
+        return [NGI, 0, 0, 0, 0, 0, 0, 0];
     }
     row_entry(list, c, s, syms, n)
 }

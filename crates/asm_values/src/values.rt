@@ -70,7 +70,7 @@ fn displaced_bytes(reg: u32, v: u64) -> Outcome
 }
 
 pub fn displaced_words(reg: u32, v: u64) -> Outcome
-    ensures { λ r. ⌜ outcomeView r ≡ displaced reg (4 * v) ⌝ }
+    ensures { λ r. ⌜ outcomeView r ≡ displaced reg (cfpB * v) ⌝ }
 {
     if CFP_M < v {
         return Outcome::Misfits;

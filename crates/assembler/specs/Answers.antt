@@ -18,9 +18,9 @@ answerView OverLimit = refused overLimit
 answerView ShortRoom = refused shortRoom
 
 -- the host's number of an answer, 0 where it is a length, and the line that it names, 0 for none [S Numbers the host sees]
-abbrev pub numberOf : Answer → ℕ
-numberOf (assembled n) = 0
-numberOf (refused r) = refusalNumber r
+abbrev pub answerNumber : Answer → ℕ
+answerNumber (assembled n) = 0
+answerNumber (refused r) = refusalNumber r
 
 abbrev pub lineOf : Answer → ℕ
 lineOf (assembled n) = 0

@@ -5,7 +5,7 @@ ghost use lib.ListN.{length};
 ghost use Rattle.language.specs.Text.{maxBytes};
 ghost use Rattle.language.specs.Fault.{deckOf};
 ghost use Rattle.language.specs.Answer.{answerOf, leftOf};
-ghost use Rattle.assembler.specs.Answers.{Answers, answerView, lineOf, numberOf};
+ghost use Rattle.assembler.specs.Answers.{Answers, answerView, lineOf, answerNumber};
 use crate::finish::finish;
 use asm_collect::collect;
 use asm_draft::deck::fill;
@@ -52,7 +52,7 @@ pub enum Assembled {
 
 // The number that the host sees, 0 for a table.
 pub fn number(a: Assembled) -> u32
-    ensures { λ r. ⌜ r ≡ numberOf (answerView a) ⌝ }
+    ensures { λ r. ⌜ r ≡ answerNumber (answerView a) ⌝ }
 {
     match a {
         Assembled::Done(_) => 0,

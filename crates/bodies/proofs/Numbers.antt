@@ -5,13 +5,13 @@ use mathlib.Core.Path.{_≡_, _∙_, ap}
 use Rattle.base.specs.Test.{Ok}
 use Rattle.base.proofs.Bool.{passed}
 use Rattle.ops.specs.Class.{Class, ENP, ERR, ESW, IFF, JSR, Marker, PPM, PRC, executes, is, marks}
-use Rattle.ops.specs.Numbers.{isSingle, numberOf}
+use Rattle.ops.specs.Numbers.{isSingle, classNumber}
 use Rattle.ops.specs.Ops.{classIn, rows}
 use Rattle.ops.proofs.Numbers.{class-of, number-of}
 
 -- the number of an operation that is never arrived at [M section 8]
 abbrev pub markerNumber : Marker → ℕ
-markerNumber k = numberOf (marks k)
+markerNumber k = classNumber (marks k)
 
 one-marker : (k : Marker) → Ok (isSingle (marks k))
 one-marker PPM = passed

@@ -22,7 +22,7 @@ use Rattle.rules.proofs.Keeps.{Lasting}
 use Rattle.rules.proofs.Lasts.{AfterStep, step-keeps}
 use Rattle.rules.proofs.Steps.{parts, step-ok}
 use Rattle.exec_core.specs.Views.{answerBase, toward}
-use Rattle.exec_core.specs.Seen.{Seen, seen, linksIn, placeOf, stateBy, stepped, stepSeen, Running}
+use Rattle.exec_core.specs.Seen.{Seen, seen, openLinks, placeOf, stateBy, stepped, stepSeen, Running}
 use Rattle.exec_core.proofs.Steps.{place-of}
 
 -- at most 256 links in lent words with room for them: their count is at most 256
@@ -32,7 +32,7 @@ take-few (suc n) k [] h a = absurd (omega arith)
 take-few (suc n) zero (x ∷ l) h a = absurd (omega arith)
 take-few (suc n) (suc k) (x ∷ l) h a = let i = take-few n k l (omega arith) (omega arith) in omega arith
 
-pub few-of : (l : List ℕ) → length l ≡ maxLinks + 1 → length (linksIn l) ≤ maxLinks → l at maxLinks ≤ maxLinks
+pub few-of : (l : List ℕ) → length l ≡ maxLinks + 1 → length (openLinks l) ≤ maxLinks → l at maxLinks ≤ maxLinks
 few-of l e h = take-few (l at maxLinks) maxLinks l h (omega arith)
 
 -- a state that goes on is awake; one that waits does so where it stands
@@ -100,7 +100,7 @@ pub data Ends (t : List ℕ) (b : ℕ) (z m : List ℕ) (ls : List Link) (r : �
 
 module _ {t : List ℕ} {b : ℕ} {z m l : List ℕ} {c : ℕ} (y : Running t b z m l c) where
   abbrev s : State
-  s = stateBy b z m (linksIn l)
+  s = stateBy b z m (openLinks l)
 
   -- what the rules say of the step
   claim : (x : Step) → step t s ≡ x → StepClaim t s (s .links) x
@@ -116,31 +116,31 @@ module _ {t : List ℕ} {b : ℕ} {z m l : List ℕ} {c : ℕ} (y : Running t b 
   unfolding stopping
   low e k = ok-le _ _ (and-r _ _ (claim (traps e) k))
 
-  module _ {r : ℕ} {z′ m′ : List ℕ} (l′ : List ℕ) (e : seen r z′ m′ (linksIn l′) ≡ stepSeen t b z m (linksIn l)) where
-    shows : (x : Step) → step t s ≡ x → seen r z′ m′ (linksIn l′) ≡ stepped s x
+  module _ {r : ℕ} {z′ m′ : List ℕ} (l′ : List ℕ) (e : seen r z′ m′ (openLinks l′) ≡ stepSeen t b z m (openLinks l)) where
+    shows : (x : Step) → step t s ≡ x → seen r z′ m′ (openLinks l′) ≡ stepped s x
     shows x k = e ∙ ap (stepped s) k
 
     -- the step goes on to the entry at r - 64, and runs from there
     pub goes-on : answerBase ≤ r → length l′ ≡ length l
-        → (step t (stateBy b z m (linksIn l)) ≡ next (stateBy (r - answerBase) z′ m′ (linksIn l′))) × Running t (r - answerBase) z′ m′ l′ c
+        → (step t (stateBy b z m (openLinks l)) ≡ next (stateBy (r - answerBase) z′ m′ (openLinks l′))) × Running t (r - answerBase) z′ m′ l′ c
     goes-on h n = go (step t s) refl
       where
-        go : (x : Step) → step t s ≡ x → (step t s ≡ next (stateBy (r - answerBase) z′ m′ (linksIn l′))) × Running t (r - answerBase) z′ m′ l′ c
+        go : (x : Step) → step t s ≡ x → (step t s ≡ next (stateBy (r - answerBase) z′ m′ (openLinks l′))) × Running t (r - answerBase) z′ m′ l′ c
         go (next s′) k =
-            let a : seen r z′ m′ (linksIn l′) ≡ stepped s (next s′) = shows (next s′) k in
+            let a : seen r z′ m′ (openLinks l′) ≡ stepped s (next s′) = shows (next s′) k in
             let f : r - answerBase ≡ entryAt (s′ .pc) = target-is r (s′ .pc) (ap (λ (x : Seen). x .how) a) in
             let q : placeOf (r - answerBase) ≡ s′ .pc = place-of (r - answerBase) (s′ .pc) f in
-            let i : s′ ≡ stateBy (r - answerBase) z′ m′ (linksIn l′) =
-            state-is s′ z′ m′ (placeOf (r - answerBase)) false (linksIn l′) (ap (λ (x : Seen). x .words) a) (ap (λ (x : Seen). x .mem) a) (sym q) (placed (next s′) k) (ap (λ (x : Seen). x .links) a)
+            let i : s′ ≡ stateBy (r - answerBase) z′ m′ (openLinks l′) =
+            state-is s′ z′ m′ (placeOf (r - answerBase)) false (openLinks l′) (ap (λ (x : Seen). x .words) a) (ap (λ (x : Seen). x .mem) a) (sym q) (placed (next s′) k) (ap (λ (x : Seen). x .links) a)
             in
-            let o : Ok (stateOk t (stateBy (r - answerBase) z′ m′ (linksIn l′))) = subst (λ (x : State). Ok (stateOk t x)) i (claim (next s′) k .passes) in (
+            let o : Ok (stateOk t (stateBy (r - answerBase) z′ m′ (openLinks l′))) = subst (λ (x : State). Ok (stateOk t x)) i (claim (next s′) k .passes) in (
               k ∙ ap next i,
               record {
                 checked = y .checked;
                 starts = f ∙ ap entryAt (sym q);
                 passes = o;
                 room = n ∙ y .room;
-                few = few-of l′ (n ∙ y .room) (parts t (stateBy (r - answerBase) z′ m′ (linksIn l′)) o .few);
+                few = few-of l′ (n ∙ y .room) (parts t (stateBy (r - answerBase) z′ m′ (openLinks l′)) o .few);
                 fixed = y .fixed;
                 zero = ap (λ (x : List ℕ). x at 0) (ap (λ (x : Seen). x .words) a) ∙ zeroed (next s′) k;
               },
@@ -153,17 +153,17 @@ module _ {t : List ℕ} {b : ℕ} {z m l : List ℕ} {c : ℕ} (y : Running t b 
         go stuck k = absurd (claim stuck k)
 
     -- the step ends the run
-    pub ends : r < answerBase → Ends t b z m (linksIn l) r z′ m′ (linksIn l′)
+    pub ends : r < answerBase → Ends t b z m (openLinks l) r z′ m′ (openLinks l′)
     ends h = go (step t s) refl
       where
-        go : (x : Step) → step t s ≡ x → Ends t b z m (linksIn l) r z′ m′ (linksIn l′)
+        go : (x : Step) → step t s ≡ x → Ends t b z m (openLinks l) r z′ m′ (openLinks l′)
         go (next s′) k = let a : r ≡ toward (s′ .pc) = ap (λ (x : Seen). x .how) (shows (next s′) k) in absurd (omega arith)
         go (awaits s′) k =
-            let a : seen r z′ m′ (linksIn l′) ≡ stepped s (awaits s′) = shows (awaits s′) k in
+            let a : seen r z′ m′ (openLinks l′) ≡ stepped s (awaits s′) = shows (awaits s′) k in
             let p = placed (awaits s′) k in
             waiting (ap (λ (x : Seen). x .how) a)
-            (k ∙ ap awaits (state-is s′ z′ m′ (placeOf b) true (linksIn l′) (ap (λ (x : Seen). x .words) a) (ap (λ (x : Seen). x .mem) a) (p .0) (p .1) (ap (λ (x : Seen). x .links) a)))
+            (k ∙ ap awaits (state-is s′ z′ m′ (placeOf b) true (openLinks l′) (ap (λ (x : Seen). x .words) a) (ap (λ (x : Seen). x .mem) a) (p .0) (p .1) (ap (λ (x : Seen). x .links) a)))
         go (traps d) k =
-            let a : seen r z′ m′ (linksIn l′) ≡ stepped s (traps d) = shows (traps d) k in
+            let a : seen r z′ m′ (openLinks l′) ≡ stepped s (traps d) = shows (traps d) k in
             stopped d (ap (λ (x : Seen). x .how) a) k (ap (λ (x : Seen). x .words) a) (ap (λ (x : Seen). x .mem) a) (ap (λ (x : Seen). x .links) a)
         go stuck k = absurd (claim stuck k)

@@ -2,7 +2,7 @@
 // One flat match, and each operation called from here alone: so the compiler makes one jump table and folds every operation into the loop.
 ghost use mathlib.Core.Path.{_≡_};
 ghost use lib.ListN.{length};
-ghost use Rattle.exec_core.specs.Seen.{seen, linksIn, stepSeen, Running};
+ghost use Rattle.exec_core.specs.Seen.{seen, openLinks, stepSeen, Running};
 use exec_bits::anb;
 use exec_bits::btc;
 use exec_bits::btw;
@@ -100,7 +100,7 @@ pub fn dispatch(
     c: usize,
 ) -> usize
     requires { ⌜ Running (now t) b (now z) (now m) (now links) c ⌝ }
-    ensures { λ r. ⌜ (seen r (now (z .exit)) (now (m .exit)) (linksIn (now (links .exit))) ≡ stepSeen (now (t .entry)) b (now (z .entry)) (now (m .entry)) (linksIn (now (links .entry)))) × (length (now (links .exit)) ≡ length (now (links .entry))) ⌝ }
+    ensures { λ r. ⌜ (seen r (now (z .exit)) (now (m .exit)) (openLinks (now (links .exit))) ≡ stepSeen (now (t .entry)) b (now (z .entry)) (now (m .entry)) (openLinks (now (links .entry)))) × (length (now (links .exit)) ≡ length (now (links .entry))) ⌝ }
 {
     match t[b] {
         101 => mov(t, b, m, z, c),

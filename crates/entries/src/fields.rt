@@ -6,6 +6,7 @@ ghost use Prim.Native.Nat.{ℕ, _+_, _*_, _≤_, _<_, _%_};
 ghost use lib.Dec.{eqb, ltb, leb};
 ghost use lib.ListN.{length, getD};
 ghost use Rattle.base.specs.Test.{_and_, _or_};
+ghost use Rattle.ops.specs.Machine.{cfpB, cfpM};
 ghost use Rattle.ops.specs.Ops.{rows, cellsOf};
 ghost use Rattle.rules.specs.Check.{among, registerOk, valueOk, apart};
 ghost use Rattle.rules.specs.Table.{constants, workings};
@@ -109,7 +110,7 @@ fn register_ok(word: u32, kind: u32, reg: u32) -> bool
 // A value is the address of a constant or working word.
 fn address_ok(table: &[u32], v: u32) -> bool
     requires { ⌜ Limited (now table) ⌝ }
-    ensures { λ r. ⌜ r ≡ (ltb v (4 * (constants (now (table .entry)) + workings (now (table .entry)))) and eqb (v % 4) 0) ⌝ }
+    ensures { λ r. ⌜ r ≡ (ltb v (cfpB * (constants (now (table .entry)) + workings (now (table .entry)))) and eqb (v % cfpB) 0) ⌝ }
 {
     if BYTES * sum(table[1], table[2]) <= index(v) {
         return false;
@@ -119,7 +120,7 @@ fn address_ok(table: &[u32], v: u32) -> bool
 
 // A value is a displacement in bytes.
 fn displacement_ok(v: u32) -> bool
-    ensures { λ r. ⌜ r ≡ (leb v 2147483647 and eqb (v % 4) 0) ⌝ }
+    ensures { λ r. ⌜ r ≡ (leb v cfpM and eqb (v % cfpB) 0) ⌝ }
 {
     if Machine::CFP_M < v {
         return false;

@@ -24,7 +24,7 @@ use Rattle.rules.proofs.Exits.{calls-jsr, exit-class, reaches-executable}
 use Rattle.rules.proofs.Facts.{executable-in-table, in-table, rule-when}
 use Rattle.bodies.proofs.Numbers.{marker-class, marker-number}
 use Rattle.bodies.proofs.Places.{class-of}
-use Rattle.exec_core.specs.Seen.{linksIn, placeOf}
+use Rattle.exec_core.specs.Seen.{openLinks, placeOf}
 use Rattle.exec_core.specs.Views.{toward}
 use Rattle.exec_control.specs.Stands.{Calls, Few, Open, Stands}
 use Rattle.exec_control.specs.Shows.{AnyCore, Leaves, TakesExit, linksAfter}
@@ -175,8 +175,8 @@ module _ {t l : List ℕ} {b : ℕ} (y : Stands t b 109) (w : Few l) where
     unfolding if placeOf
     jsr-opens n v e h q =
         let g : 8 * (v + 1) + 72 ≡ toward (suc (t at (b + 3))) = omega arith in
-        let f : linksIn (set (set l n (b / 8 - 1)) 256 (l at 256 + 1)) ≡ linksIn l ++ (b / 8 - 1) ∷ [] =
-        ap (λ (i : ℕ). linksIn (set (set l n (b / 8 - 1)) 256 (i + 1))) (sym e) ∙ links-push l w n (b / 8 - 1) e h in (
+        let f : openLinks (set (set l n (b / 8 - 1)) 256 (l at 256 + 1)) ≡ openLinks l ++ (b / 8 - 1) ∷ [] =
+        ap (λ (i : ℕ). openLinks (set (set l n (b / 8 - 1)) 256 (i + 1))) (sym e) ∙ links-push l w n (b / 8 - 1) e h in (
           λ c z m. rw (to-procedure, links-count l w, lt-ltb _ _ (rw e at h), g, f) refl,
           length-set (set l n (b / 8 - 1)) 256 (l at 256 + 1) ∙ length-set l n (b / 8 - 1),
         )
@@ -222,11 +222,11 @@ pub record Leaving (t l : List ℕ) (b : ℕ) : Type 0 where
   pub number : t at (b + 3) ≤ declared t (callee t (l at (l at 256 - 1)))
 
 module _ {t l : List ℕ} {b : ℕ} (y : Stands t b 112) (w : Few l) (o : Open t b l) where
-  few : length (linksIn l) ≤ 256
+  few : length (openLinks l) ≤ 256
   few = omega (arith, links-count l w, w .count)
 
-  left : Rules.Leaves t (y .checked) (placeOf b) (linksIn l) few (o .chained) (o .covered)
-  left = Rules.leaves t (y .checked) (placeOf b) (linksIn l) few (o .chained) (o .covered) (rule-at EXI passed y)
+  left : Rules.Leaves t (y .checked) (placeOf b) (openLinks l) few (o .chained) (o .covered)
+  left = Rules.leaves t (y .checked) (placeOf b) (openLinks l) few (o .chained) (o .covered) (rule-at EXI passed y)
 
   some-open : 0 < l at 256
   some-open = links-some l (left .jsr) (left .youngest)
@@ -244,11 +244,11 @@ module _ {t l : List ℕ} {b : ℕ} (y : Stands t b 112) (w : Few l) (o : Open t
 
   -- what EXI shows, where j is the youngest link, v the number and l′ the links that stay
   module _ (z z′ : List ℕ) (r j v : ℕ) (young : j ≡ l at (l at 256 - 1)) (numbered : v ≡ t at (b + 3)) (x : TakesExit r z′ t j v z) where
-    exi-shows : (l′ : List ℕ) → linksAfter r (linksIn l) (init (linksIn l)) ≡ linksIn l′ → length l′ ≡ length l → Leaves r z′ l′ t b z l EXI
+    exi-shows : (l′ : List ℕ) → linksAfter r (openLinks l) (init (openLinks l)) ≡ openLinks l′ → length l′ ≡ length l → Leaves r z′ l′ t b z l EXI
     exi-shows l′ f g = (
       λ c m.
           rw (← f, links-top l w some-open, ← young, ← value-at t b (placeOf b) (y .starts), ← numbered)
-          (x (placeOf b) false m (linksIn l) (init (linksIn l))),
+          (x (placeOf b) false m (openLinks l) (init (openLinks l))),
       g,
     )
 
@@ -263,8 +263,8 @@ module _ {t l : List ℕ} {b : ℕ} (y : Stands t b 112) (w : Few l) (o : Open t
 
 -- SSS
 module _ {l : List ℕ} (w : Few l) (v : ℕ) where
-  pub sss-above : l at 256 < v → leb v (length (linksIn l)) ≡ false
+  pub sss-above : l at 256 < v → leb v (length (openLinks l)) ≡ false
   sss-above h = rw (links-count l w) (lt-leb _ _ h)
 
-  pub sss-within : v ≤ l at 256 → leb v (length (linksIn l)) ≡ true
+  pub sss-within : v ≤ l at 256 → leb v (length (openLinks l)) ≡ true
   sss-within h = rw (links-count l w) (le-leb _ _ h)

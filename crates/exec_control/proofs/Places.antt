@@ -11,7 +11,7 @@ use Rattle.base.specs.Test.{Ok, if}
 use Rattle.base.specs.Lists.{_at_}
 use Rattle.base.proofs.Bool.{and-l, and-r, ok-eq, ok-le, passed}
 use Rattle.ops.specs.Class.{Flow, executes, CHK}
-use Rattle.ops.specs.Numbers.{numberOf, isSingle}
+use Rattle.ops.specs.Numbers.{classNumber, isSingle}
 use Rattle.ops.specs.Ops.{rows, classIn, checks}
 use Rattle.ops.proofs.Numbers as Numbers
 use Rattle.rules.specs.Table.{size, entryAt, field, classAt, section5, target1, target3, value, tableLength, externals, freshCount, constants, workings}
@@ -72,7 +72,7 @@ pub register-small : (t : List ℕ) (b : ℕ) {f : ℕ → Bool} → Sound f (op
 register-small t b s = omega (arith, s .register, register-at t b)
 
 -- the class of an operation that alone has it, and its rules
-module _ (f : Flow) (single : Ok (isSingle (executes f))) {t : List ℕ} {b : ℕ} (y : Stands t b (numberOf (executes f))) where
+module _ (f : Flow) (single : Ok (isSingle (executes f))) {t : List ℕ} {b : ℕ} (y : Stands t b (classNumber (executes f))) where
   pub class-at : classAt t (placeOf b) ≡ executes f
   class-at =
       class-of t (placeOf b) (place-inside y) ∙ ap (λ (i : ℕ). classIn (t at i) rows) (sym (y .starts))

@@ -15,7 +15,7 @@ use Rattle.rules.specs.Check.{tableOk}
 use Rattle.rules.specs.State.{Link, memoryFits, waitOk}
 use Rattle.rules.proofs.Facts.{executable-in-table}
 use Rattle.rules.proofs.Steps.{Parts, parts}
-use Rattle.exec_core.specs.Seen.{Running, linksIn, placeOf, stateBy}
+use Rattle.exec_core.specs.Seen.{Running, openLinks, placeOf, stateBy}
 use Rattle.exec_control.specs.Stands.{Calls, Few, Open, Roomy, Stands}
 use Rattle.exec_control.specs.Shows.{linksAfter}
 use Rattle.exec_control.proofs.Called.{calls-of}
@@ -27,8 +27,8 @@ memory-roomy t k h =
     record { least = omega (arith, ok-le 256 k (and-l _ _ h)); most = ok-le k 8192 (and-l _ _ (and-r _ _ h)) }
 
 module _ {t z m l : List ℕ} {b c : ℕ} (y : Running t b z m l c) where
-  state-parts : Parts t (stateBy b z m (linksIn l))
-  state-parts = parts t (stateBy b z m (linksIn l)) (y .passes)
+  state-parts : Parts t (stateBy b z m (openLinks l))
+  state-parts = parts t (stateBy b z m (openLinks l)) (y .passes)
 
   -- every operation
   pub stands : {n : ℕ} → t at b ≡ n → Stands t b n

@@ -14,7 +14,7 @@ use Rattle.rules.specs.State.{Link}
 use Rattle.rules.specs.Effect.{shown}
 use Rattle.rules.specs.Control.{stateAt, land, send, exitOf}
 use Rattle.exec_core.specs.Views.{does}
-use Rattle.exec_core.specs.Seen.{seen, linksIn, stepped, controls}
+use Rattle.exec_core.specs.Seen.{seen, openLinks, stepped, controls}
 
 -- lent the table alone
 abbrev pub AnyState : ℕ → List ℕ → ℕ → Flow → Type 0
@@ -30,16 +30,16 @@ AnyLinks r z′ t b z m f o = (c : ℕ) (ls : List Link) → seen r z′ m ls �
 
 -- lent the links, which are l before and l′ after, as many words
 abbrev pub AnyCore : ℕ → List ℕ → List ℕ → ℕ → List ℕ → Flow → Type 0
-AnyCore r l′ t b l f = ((c : ℕ) (z m : List ℕ) → seen r z m (linksIn l′) ≡ controls t b c z m (linksIn l) f idle) × (length l′ ≡ length l)
+AnyCore r l′ t b l f = ((c : ℕ) (z m : List ℕ) → seen r z m (openLinks l′) ≡ controls t b c z m (openLinks l) f idle) × (length l′ ≡ length l)
 
 -- lent the words and the links
 abbrev pub Leaves : ℕ → List ℕ → List ℕ → List ℕ → ℕ → List ℕ → List ℕ → Flow → Type 0
 Leaves r z′ l′ t b z l f =
-    ((c : ℕ) (m : List ℕ) → seen r z′ m (linksIn l′) ≡ controls t b c z m (linksIn l) f idle) × (length l′ ≡ length l)
+    ((c : ℕ) (m : List ℕ) → seen r z′ m (openLinks l′) ≡ controls t b c z m (openLinks l) f idle) × (length l′ ≡ length l)
 
 -- lent all
 abbrev pub Cuts : ℕ → List ℕ → List ℕ → List ℕ → ℕ → List ℕ → List ℕ → List ℕ → Flow → Op → Type 0
-Cuts r z′ l′ t b z m l f o = ((c : ℕ) → seen r z′ m (linksIn l′) ≡ controls t b c z m (linksIn l) f o) × (length l′ ≡ length l)
+Cuts r z′ l′ t b z m l f o = ((c : ℕ) → seen r z′ m (openLinks l′) ≡ controls t b c z m (openLinks l) f o) × (length l′ ≡ length l)
 
 -- LEI, which goes on
 abbrev pub Loads : ℕ → List ℕ → List ℕ → ℕ → List ℕ → Op → Type 0

@@ -12,7 +12,7 @@ use Rattle.rules.specs.Table.{entryAt, entryWords, executable, classAt, bodyAt}
 use Rattle.rules.specs.Check.{tableOk}
 use Rattle.rules.specs.State.{chain, held, topLink}
 use Rattle.rules.specs.Exec.{checkWords}
-use Rattle.exec_core.specs.Seen.{placeOf, linksIn}
+use Rattle.exec_core.specs.Seen.{placeOf, openLinks}
 
 -- the operation n stands at b, where it can be arrived at, in a table that passes its check
 pub record Stands (t : List ℕ) (b n : ℕ) : Type 0 where
@@ -37,8 +37,8 @@ pub record Few (l : List ℕ) : Type 0 where
 
 -- the links are chained, and the youngest is a call of the procedure that the entry at b stands in
 pub record Open (t : List ℕ) (b : ℕ) (l : List ℕ) : Type 0 where
-  pub chained : Ok (chain t 0 (linksIn l))
-  pub covered : Ok (held t (bodyAt t (placeOf b)) (topLink 0 (linksIn l)))
+  pub chained : Ok (chain t 0 (openLinks l))
+  pub covered : Ok (held t (bodyAt t (placeOf b)) (topLink 0 (openLinks l)))
 
 -- memory of k words has the words that CHK keeps free
 pub record Roomy (k : ℕ) : Type 0 where

@@ -6,14 +6,14 @@ use mathlib.Core.Bool.{Bool, true, false, not}
 use mathlib.Core.List.{List}
 use borrow.Author.Tests.{not-true, not-false}
 use Rattle.base.specs.Test.{if}
-use Rattle.rules.specs.Number.{Verdict, granted, refusedBy, badState}
+use Rattle.rules.specs.Number.{Verdict, granted, refusedBy, verdictNumber, badState}
 use Rattle.rules.specs.Check.{tableOk}
 use Rattle.rules.specs.State.{stateOk}
-use Rattle.admission.specs.Admit.{admitted}
+use Rattle.rules.specs.Run.{admitted}
 use Rattle.states.specs.Views.{stateOf}
 use Rattle.states.specs.declared.State.{State}
 use Rattle.admission.proofs.Admits.{admit-granted, admit-no-state}
-use Rattle.host.specs.Answer.{tableNumber, admittedWords, stateNumber, verdictNumber}
+use Rattle.host_claims.specs.Answer.{tableNumber, admittedWords, stateNumber}
 use Rattle.lent.specs.Lent.{lawful, stateFrom, codeFrom}
 
 -- the table passed, or did not

@@ -1,8 +1,8 @@
 -- The number of each answer of the snapshot and of the assembler, as a host sees it: alone, or in the upper half of an answer with a value.
 -- Wrong answers that the equations rule out: another refusal's number, a length or a line in the upper half, a line beside 8, 9 or 10.
 -- Assumes nothing.
-use Prim.Native.Nat.{ℕ, _+_, _*_}
-use Rattle.rules.specs.Number.{refusalNumber, badTable, badState, badTrailer, otherProgram, badFrozen, freshCountOff, memoryLengthOff, shortRoom}
+use Prim.Native.Nat.{ℕ, _+_}
+use Rattle.rules.specs.Number.{refusalNumber, badTable, badState, badTrailer, otherProgram, badFrozen, freshCountOff, memoryLengthOff, shortRoom, upper}
 use Rattle.language.specs.Answer as Cards
 use Rattle.snapshot.specs.declared.waking.Answer.{Answer}
 use Rattle.snapshot.specs.declared.waking.Answer.the-variants.{Woken, BadTable, BadTrailer, OtherProgram, BadFrozen, FreshCountOff, MemoryLengthOff}
@@ -10,19 +10,15 @@ use Rattle.snapshot.specs.declared.writing.Written.{Written}
 use Rattle.snapshot.specs.declared.writing.Written.the-variants as written
 use Rattle.snapshot.specs.declared.writing.Written.the-variants.{Filled, BadState, ShortRoom}
 
--- a number in the upper half of an answer
-abbrev pub upper : ℕ → ℕ
-upper n = 4294967296 * n
-
 -- the number of restore's answer as the code has it
-abbrev pub numberOf : Answer → ℕ
-numberOf Woken = 0
-numberOf BadTable = refusalNumber badTable
-numberOf BadTrailer = refusalNumber badTrailer
-numberOf OtherProgram = refusalNumber otherProgram
-numberOf BadFrozen = refusalNumber badFrozen
-numberOf FreshCountOff = refusalNumber freshCountOff
-numberOf MemoryLengthOff = refusalNumber memoryLengthOff
+abbrev pub numberRestored : Answer → ℕ
+numberRestored Woken = 0
+numberRestored BadTable = refusalNumber badTable
+numberRestored BadTrailer = refusalNumber badTrailer
+numberRestored OtherProgram = refusalNumber otherProgram
+numberRestored BadFrozen = refusalNumber badFrozen
+numberRestored FreshCountOff = refusalNumber freshCountOff
+numberRestored MemoryLengthOff = refusalNumber memoryLengthOff
 
 -- the number and length of the writer's answer as the code has it
 abbrev pub numberWritten : Written → ℕ

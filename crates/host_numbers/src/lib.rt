@@ -3,7 +3,8 @@
 ghost use mathlib.Core.Path.{_≡_};
 ghost use Prim.Native.Nat.{_+_};
 ghost use Rattle.assembler.specs.Answers.{answerView};
-ghost use Rattle.host_numbers.specs.Numbers.{assembledNumber, numberOf, numberWritten, upper};
+ghost use Rattle.host_numbers.specs.Numbers.{assembledNumber, numberRestored, numberWritten};
+ghost use Rattle.rules.specs.Number.{upper};
 use assembler::Assembled;
 use snapshot::waking::Answer;
 use snapshot::writing::Written;
@@ -38,7 +39,7 @@ pub const UPPER: u64 = 4294967296;
 
 // The number of an answer of restore.
 pub fn number_of(a: Answer) -> u32
-    ensures { λ r. ⌜ r ≡ numberOf a ⌝ }
+    ensures { λ r. ⌜ r ≡ numberRestored a ⌝ }
 {
     match a {
         Answer::Woken => PASSED,

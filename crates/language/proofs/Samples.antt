@@ -7,7 +7,7 @@ use Rattle.language.proofs.Deck.{failingBy, quick-failing, Case, card, 
 use Rattle.language.proofs.Quick.{answerBy, lookUp, namedIn, operationBy, walkBy, withRemainder}
 use Rattle.base.specs.Test.{_and_, _or_, if}
 use Rattle.base.specs.Lists.{member, same}
-use Rattle.ops.specs.Ops.{rows}
+use Rattle.ops.specs.Ops.{NGI, opIn, rows}
 use Rattle.ops.specs.Lookup.{rowOfLetters}
 use Rattle.ops.specs.Supplied.{supplies, suppliedOf}
 use Rattle.words.specs.Words.{textWords}
@@ -19,7 +19,7 @@ use Rattle.language.specs.Form.{singleForm, indexedForm, combinedForm, s
 use Rattle.language.specs.Card.{cardOf, holdsPlace, ofWords, isOneWord, wordCount, isExternal, openedPast, past, walk, cardsOf}
 use Rattle.language.specs.Symbol.{declaredSort, placedSort, sortAt, fieldsNamed, firstPlace, globalMeaning, meaning, allPlaced, above, pairs}
 use Rattle.language.specs.Operand.{registerKind, takes, valueWithin, displaced, symbolBy, summed, subtracted, signedWithin, operandOf, operandsOf, outcomes}
-use Rattle.language.specs.Image.{symbolAt, symbolsFrom, symbolsOf, firstOperand, rowEntry, entryIn, isFresh, wordsIn, startsIn, freshIn, countsIn, header, image}
+use Rattle.language.specs.Image.{symbolAt, symbolsFrom, symbolsOf, firstOperand, rowEntry, entryIn, isFresh, wordsIn, startsIn, freshIn, countsIn, header, image, standIn}
 use Rattle.language.specs.Fault.{deckWith, deckIn, deckOf, bytesPrinted, lineShort, labelReadable, formsOf, operandsFormed, remarkThere, textDelimited, inItsSection, isLabelled, labelThere, labelWanted, labelOnce, noSurplus, operandsFit, commaThere, textThere, symbolsDefined, procedureDeclared, routineDeclared, countKnown, isJudged, looseFault, placeFault, shapeFault, conditions, faultOf}
 use Rattle.language.specs.Answer.{assembled, refused, incomplete, overLimit, shortRoom, firstFault, isClosed, isComplete, isWithin, limitsKept, finished, judged, answerOf, leftOf}
 
@@ -47,3 +47,8 @@ pub refusals-in-order :
     ≡ refused incomplete ∷ refused overLimit ∷ refused shortRoom ∷ assembled 9 ∷ []
 unfolding finished if
 refusals-in-order = refl
+
+-- what stands for an unknown operation is the number of NGI
+pub stands-for-unknown : opIn standIn rows ≡ NGI
+unfolding rows if
+stands-for-unknown = refl

@@ -1,8 +1,8 @@
--- The reference program of the scope paper and its table, computed [S Reference runs].
+-- The reference program of the scope paper and its table, and the eight reference runs as one list, computed [S Reference runs].
 -- Assumes nothing.
 use Prim.Native.Nat.{ℕ}
 use Prim.Native.String.{String}
-use mathlib.Core.Path.{_≡_, ap, refl}
+use mathlib.Core.Path.{_≡_, ap, refl, _∙_}
 use mathlib.Core.List.{List, [], _∷_, _++_}
 use lib.ListN.{replicate}
 use Rattle.language.proofs.Deck.{tells, told, typedLines}
@@ -15,6 +15,9 @@ use Rattle.ops.specs.Supplied.{supplies, suppliedOf}
 use Rattle.words.specs.Words.{textWords}
 use Rattle.rules.specs.Table.{size, constants, workings, freshCount, externals, section4, section5, section6, freshAt, exitCount, startWord, tableLength, field, classAt, value, target1, target2, target3, executable, bodyAt, namesProcedure, namesExternal, callee, declared}
 use Rattle.rules.specs.Check.{smaller, among, registerOk, valueOk, operandOk, thirdOk, fieldsOk, apart, outside, reaches, isOutside, startsSection, allExits, exitList, iffs, valueKnown, unlike, distinctIffs, switchList, exitNumberOk, faultAt, rulesHold, sectionsOk, freshOk, countsOk, limitsOk, layoutOk, tableOk}
+use Rattle.rules.specs.Run.{answer}
+use Rattle.rules.specs.Reference.{reference, runsBy, runsGive}
+use Rattle.rules.proofs.Vectors.{runs-by-rules}
 use Rattle.language.specs.Text.{between, parts, lines, labelEnd, operationStart, operationEnd, operandStart, tailOf, fieldOf, isEmpty, symbolOf, numberOf, registerOf, labelOf, labelFormed}
 use Rattle.language.specs.Operation.{operationNamed, operationIn, operationOf, isSkipped, isDivider, wantsLabel, isLabelless, barsLabel, formatsOf, hasText}
 use Rattle.language.specs.Form.{singleForm, indexedForm, combinedForm, signedForm, markedForm, formOf, textsIn, writtenForms, hasComma, hasRemark, delimitedBy, quoted}
@@ -25,8 +28,8 @@ use Rattle.language.specs.Image.{symbolAt, symbolsFrom, symbolsOf, firstOperand
 use Rattle.language.specs.Fault.{deckWith, deckIn, deckOf, bytesPrinted, lineShort, labelReadable, formsOf, operandsFormed, remarkThere, textDelimited, inItsSection, isLabelled, labelThere, labelWanted, labelOnce, noSurplus, operandsFit, commaThere, textThere, symbolsDefined, procedureDeclared, routineDeclared, countKnown, isJudged, looseFault, placeFault, shapeFault, conditions, faultOf}
 use Rattle.language.specs.Answer.{firstFault, isClosed, isComplete, isWithin, limitsKept, finished, judged, answerOf, leftOf}
 
-abbrev pub reference : List String
-reference =
+abbrev pub referenceCards : List String
+referenceCards =
     " SEC"
     ∷ "SYSXX EXP E,1"
     ∷ "ADDUP INP R,1"
@@ -53,35 +56,34 @@ reference =
     ∷ " END"
     ∷ []
 
--- its table: header, an entry to a line with its card, the exit count of SYSXX
-abbrev pub referenceTable : List ℕ
-referenceTable =
-    13 ∷ 0 ∷ 0 ∷ 0 ∷ 1 ∷ 0 ∷ 11 ∷ 12  -- n, c, w, fresh words, EXPs, starts of sections 4, 5, 6
-    ∷ 101 ∷ 1 ∷ 0 ∷ 3 ∷ 8 ∷ 4 ∷ 0 ∷ 0  -- 0 START MOV =THREE,WA
-    ∷ 109 ∷ 6 ∷ 0 ∷ 6 ∷ 0 ∷ 0 ∷ 0 ∷ 0  -- 1 JSR ADDUP
-    ∷ 110 ∷ 6 ∷ 0 ∷ 3 ∷ 0 ∷ 0 ∷ 0 ∷ 0  -- 2 PPM DONE$
-    ∷ 109 ∷ 23 ∷ 0 ∷ 0 ∷ 0 ∷ 0 ∷ 0 ∷ 0  -- 3 DONE$ JSR SYSXX
-    ∷ 110 ∷ 0 ∷ 0 ∷ 0 ∷ 0 ∷ 0 ∷ 0 ∷ 0  -- 4 PPM .
-    ∷ 102 ∷ 6 ∷ 0 ∷ 0 ∷ 0 ∷ 0 ∷ 0 ∷ 0  -- 5 BRN START
-    ∷ 111 ∷ 1 ∷ 0 ∷ 1 ∷ 0 ∷ 0 ∷ 0 ∷ 0  -- 6 ADDUP PRC R,1
-    ∷ 116 ∷ 8 ∷ 5 ∷ 0 ∷ 0 ∷ 0 ∷ 0 ∷ 0  -- 7 LOOPA ICV WB
-    ∷ 216 ∷ 8 ∷ 4 ∷ 0 ∷ 6 ∷ 0 ∷ 7 ∷ 0  -- 8 BCT WA,LOOPA
-    ∷ 112 ∷ 1 ∷ 0 ∷ 1 ∷ 0 ∷ 0 ∷ 0 ∷ 0  -- 9 EXI 1
-    ∷ 113 ∷ 0 ∷ 0 ∷ 0 ∷ 0 ∷ 0 ∷ 0 ∷ 0  -- 10 ENP
-    ∷ 115 ∷ 1 ∷ 0 ∷ 1 ∷ 0 ∷ 0 ∷ 0 ∷ 0  -- 11 ERB 1,STACK FULL
-    ∷ 102 ∷ 6 ∷ 0 ∷ 0 ∷ 0 ∷ 0 ∷ 0 ∷ 0  -- 12 BRN START
-    ∷ 1 ∷ []
-
 -- the table, word for word
-pub reference-table : deckOf (typedLines reference) .table ≡ referenceTable
+pub reference-table : deckOf (typedLines referenceCards) .table ≡ reference
 unfolding namedIn withRemainder lookUp operationBy walkBy _and_ _or_ if member same rows supplies suppliedOf textWords size constants workings freshCount externals section4 section5 section6 freshAt exitCount startWord tableLength field classAt value target1 target2 target3 executable bodyAt namesProcedure namesExternal callee declared smaller among registerOk valueOk operandOk thirdOk fieldsOk apart outside reaches isOutside startsSection allExits exitList iffs valueKnown unlike distinctIffs switchList exitNumberOk faultAt rulesHold sectionsOk freshOk countsOk limitsOk layoutOk tableOk between parts lines labelEnd operationStart operationEnd operandStart tailOf fieldOf isEmpty symbolOf numberOf registerOf labelOf labelFormed isSkipped isDivider wantsLabel isLabelless barsLabel formatsOf hasText singleForm indexedForm combinedForm signedForm markedForm formOf textsIn writtenForms hasComma hasRemark delimitedBy quoted holdsPlace ofWords isOneWord wordCount isExternal openedPast past declaredSort placedSort sortAt fieldsNamed firstPlace globalMeaning meaning allPlaced above pairs registerKind takes valueWithin displaced symbolBy summed subtracted signedWithin operandOf operandsOf outcomes symbolAt symbolsFrom symbolsOf firstOperand rowEntry entryIn isFresh wordsIn startsIn freshIn countsIn header image deckWith deckIn deckOf bytesPrinted lineShort labelReadable formsOf operandsFormed remarkThere textDelimited inItsSection isLabelled labelThere labelWanted labelOnce noSurplus operandsFit commaThere textThere symbolsDefined procedureDeclared routineDeclared countKnown isJudged looseFault placeFault shapeFault conditions faultOf firstFault isClosed isComplete isWithin limitsKept finished judged leftOf
-reference-table = ap (λ (cs : List Card). deckIn cs .table) (cards-by (typedLines reference))
+reference-table = ap (λ (cs : List Card). deckIn cs .table) (cards-by (typedLines referenceCards))
 
 -- it is assembled, and the lent words hold it and the rest as lent
-pub reference-answer : tells reference ≡ 0 ∷ 113 ∷ []
+pub reference-answer : tells referenceCards ≡ 0 ∷ 113 ∷ []
 unfolding answerBy namedIn withRemainder lookUp operationBy walkBy _and_ _or_ if member same rows supplies suppliedOf textWords size constants workings freshCount externals section4 section5 section6 freshAt exitCount startWord tableLength field classAt value target1 target2 target3 executable bodyAt namesProcedure namesExternal callee declared smaller among registerOk valueOk operandOk thirdOk fieldsOk apart outside reaches isOutside startsSection allExits exitList iffs valueKnown unlike distinctIffs switchList exitNumberOk faultAt rulesHold sectionsOk freshOk countsOk limitsOk layoutOk tableOk between parts lines labelEnd operationStart operationEnd operandStart tailOf fieldOf isEmpty symbolOf numberOf registerOf labelOf labelFormed isSkipped isDivider wantsLabel isLabelless barsLabel formatsOf hasText singleForm indexedForm combinedForm signedForm markedForm formOf textsIn writtenForms hasComma hasRemark delimitedBy quoted holdsPlace ofWords isOneWord wordCount isExternal openedPast past declaredSort placedSort sortAt fieldsNamed firstPlace globalMeaning meaning allPlaced above pairs registerKind takes valueWithin displaced symbolBy summed subtracted signedWithin operandOf operandsOf outcomes symbolAt symbolsFrom symbolsOf firstOperand rowEntry entryIn isFresh wordsIn startsIn freshIn countsIn header image deckWith deckIn bytesPrinted lineShort labelReadable formsOf operandsFormed remarkThere textDelimited inItsSection isLabelled labelThere labelWanted labelOnce noSurplus operandsFit commaThere textThere symbolsDefined procedureDeclared routineDeclared countKnown isJudged looseFault placeFault shapeFault conditions faultOf firstFault isClosed isComplete isWithin limitsKept finished judged leftOf
-reference-answer = ap told (answer-by (typedLines reference) 1000)
+reference-answer = ap told (answer-by (typedLines referenceCards) 1000)
 
-pub reference-left : leftOf (typedLines reference) (replicate 115 7) ≡ referenceTable ++ 7 ∷ 7 ∷ []
+pub reference-left : leftOf (typedLines referenceCards) (replicate 115 7) ≡ reference ++ 7 ∷ 7 ∷ []
 unfolding _and_ _or_ if member same rows rowOfLetters supplies suppliedOf textWords size constants workings freshCount externals section4 section5 section6 freshAt exitCount startWord tableLength field classAt value target1 target2 target3 executable bodyAt namesProcedure namesExternal callee declared smaller among registerOk valueOk operandOk thirdOk fieldsOk apart outside reaches isOutside startsSection allExits exitList iffs valueKnown unlike distinctIffs switchList exitNumberOk faultAt rulesHold sectionsOk freshOk countsOk limitsOk layoutOk tableOk between parts lines labelEnd operationStart operationEnd operandStart tailOf fieldOf isEmpty symbolOf numberOf registerOf labelOf labelFormed operationNamed operationIn operationOf isSkipped isDivider wantsLabel isLabelless barsLabel formatsOf hasText singleForm indexedForm combinedForm signedForm markedForm formOf textsIn writtenForms hasComma hasRemark delimitedBy quoted cardOf holdsPlace ofWords isOneWord wordCount isExternal openedPast past walk cardsOf declaredSort placedSort sortAt fieldsNamed firstPlace globalMeaning meaning allPlaced above pairs registerKind takes valueWithin displaced symbolBy summed subtracted signedWithin operandOf operandsOf outcomes symbolAt symbolsFrom symbolsOf firstOperand rowEntry entryIn isFresh wordsIn startsIn freshIn countsIn header image deckWith deckIn deckOf bytesPrinted lineShort labelReadable formsOf operandsFormed remarkThere textDelimited inItsSection isLabelled labelThere labelWanted labelOnce noSurplus operandsFit commaThere textThere symbolsDefined procedureDeclared routineDeclared countKnown isJudged looseFault placeFault shapeFault conditions faultOf firstFault isClosed isComplete isWithin limitsKept finished judged answerOf leftOf
 reference-left = refl
+
+-- run 8's card as the one constant of a program of three branches; 34 words hold its table
+abbrev textCards : List String
+textCards =
+    " SEC" ∷ " SEC" ∷ " SEC" ∷ " DTC /ABCDE/" ∷ " SEC" ∷ " SEC" ∷ "START BRN START" ∷ " SEC" ∷ " BRN START" ∷ " SEC" ∷ " BRN START" ∷ " END" ∷ []
+
+abbrev textTable : List ℕ
+textTable = leftOf (typedLines textCards) (replicate 34 0)
+
+-- its starting words
+text-words : startWord textTable 0 ∷ startWord textTable 1 ∷ [] ≡ 1145258561 ∷ 69 ∷ []
+unfolding _and_ _or_ if member same rows rowOfLetters supplies suppliedOf textWords size constants workings freshCount externals section4 section5 section6 freshAt exitCount startWord tableLength field classAt value target1 target2 target3 executable bodyAt namesProcedure namesExternal callee declared smaller among registerOk valueOk operandOk thirdOk fieldsOk apart outside reaches isOutside startsSection allExits exitList iffs valueKnown unlike distinctIffs switchList exitNumberOk faultAt rulesHold sectionsOk freshOk countsOk limitsOk layoutOk tableOk between parts lines labelEnd operationStart operationEnd operandStart tailOf fieldOf isEmpty symbolOf numberOf registerOf labelOf labelFormed operationNamed operationIn operationOf isSkipped isDivider wantsLabel isLabelless barsLabel formatsOf hasText singleForm indexedForm combinedForm signedForm markedForm formOf textsIn writtenForms hasComma hasRemark delimitedBy quoted cardOf holdsPlace ofWords isOneWord wordCount isExternal openedPast past walk cardsOf declaredSort placedSort sortAt fieldsNamed firstPlace globalMeaning meaning allPlaced above pairs registerKind takes valueWithin displaced symbolBy summed subtracted signedWithin operandOf operandsOf outcomes symbolAt symbolsFrom symbolsOf firstOperand rowEntry entryIn isFresh wordsIn startsIn freshIn countsIn header image deckWith deckIn deckOf bytesPrinted lineShort labelReadable formsOf operandsFormed remarkThere textDelimited inItsSection isLabelled labelThere labelWanted labelOnce noSurplus operandsFit commaThere textThere symbolsDefined procedureDeclared routineDeclared countKnown isJudged looseFault placeFault shapeFault conditions faultOf firstFault isClosed isComplete isWithin limitsKept finished judged answerOf leftOf
+text-words = refl
+
+-- the eight runs: seven steps by the rules, the eighth by its card
+pub reference-runs :
+    runsBy answer (startWord textTable 0 ∷ startWord textTable 1 ∷ []) ≡ runsGive (1145258561 ∷ 69 ∷ [])
+reference-runs = runs-by-rules _ ∙ ap runsGive text-words

@@ -12,7 +12,7 @@ use borrow.Author.Tests.{le-leb, lt-leb, not-false}
 use Rattle.base.specs.Test.{_and_, Ok}
 use Rattle.base.proofs.Bool.{and-l, ok-le, true-ok}
 use Rattle.base.specs.Lists.{_at_}
-use Rattle.lent.specs.Lent.{lawful, linksIn}
+use Rattle.lent.specs.Lent.{lawful, linksLent}
 
 -- one link more
 pub links-next : (l ws : List ℕ) (i : ℕ) → i < 256 → length l ≡ 256 → 267 ≤ length ws → take i l ≡ take i (drop 11 ws)
@@ -22,7 +22,7 @@ links-next l ws i b n h e =
     rw (s, take-suc-set l i (ws at (11 + i)) (omega arith), take-suc (drop 11 ws) i 0 (simp length-drop (omega arith)), getD-drop 11 ws i 0, e)
 
 -- all of them
-pub links-last : (l ws : List ℕ) (i : ℕ) → 256 ≤ i → i ≤ 256 → length l ≡ 256 → take i l ≡ take i (drop 11 ws) → l ≡ linksIn ws
+pub links-last : (l ws : List ℕ) (i : ℕ) → 256 ≤ i → i ≤ 256 → length l ≡ 256 → take i l ≡ take i (drop 11 ws) → l ≡ linksLent ws
 links-last l ws i a b n e =
     let s : i ≡ 256 = omega arith in
     sym (take-all 256 l (omega arith)) ∙ rw s at e

@@ -23,8 +23,8 @@ unfoldable pub lawful : List ℕ → Bool
 lawful ws = leb 267 (length ws) and leb (ws at 7) 1 and leb (ws at 9) 1
 
 -- the 256 links
-abbrev pub linksIn : List ℕ → List ℕ
-linksIn ws = take maxLinks (drop 11 ws)
+abbrev pub linksLent : List ℕ → List ℕ
+linksLent ws = take maxLinks (drop 11 ws)
 
 -- the state of these words with the memory mem
 abbrev pub stateFrom : List ℕ → List ℕ → Rules.State
@@ -34,7 +34,7 @@ stateFrom ws mem =
       words = ownWords (ws at 0) (ws at 1) (ws at 2) (ws at 3) (ws at 4) (ws at 5) (ws at 6) (bit (eqb (ws at 7) 1));
       mem = mem;
     })
-    (ws at 8) (eqb (ws at 9) 1) (linksOf (ws at 10) (linksIn ws))
+    (ws at 8) (eqb (ws at 9) 1) (linksOf (ws at 10) (linksLent ws))
 
 -- the same as the code holds it
 abbrev pub codeFrom : List ℕ → State
@@ -51,7 +51,7 @@ codeFrom ws =
       pc = ws at 8;
       waiting = eqb (ws at 9) 1;
       count = ws at 10;
-      links = linksIn ws;
+      links = linksLent ws;
     }
 
 -- the words of a state: those in front of the links, and all 267

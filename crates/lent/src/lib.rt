@@ -7,7 +7,7 @@ ghost use Prim.Native.Nat.{_+_};
 ghost use mathlib.Core.List.{_++_};
 ghost use lib.ListN.{drop};
 ghost use Rattle.snap_core.specs.Buffers.{put};
-ghost use Rattle.lent.specs.Lent.{codeFrom, headOf, lawful, linksIn, wordsFrom};
+ghost use Rattle.lent.specs.Lent.{codeFrom, headOf, lawful, linksLent, wordsFrom};
 use ops::constants::Machine;
 use states::State;
 use states::bit;
@@ -56,7 +56,7 @@ pub fn words_ok(words: &[u32]) -> bool
 // The 256 links.
 pub fn links_of(words: &[u32]) -> [u32; Machine::MAX_LINKS]
     requires { ⌜ 267 ≤ length (now words) ⌝ }
-    ensures { λ r. ⌜ r ≡ linksIn (now (words .entry)) ⌝ }
+    ensures { λ r. ⌜ r ≡ linksLent (now (words .entry)) ⌝ }
 {
     let mut links = [0u32; Machine::MAX_LINKS];
     let mut i: usize = 0;

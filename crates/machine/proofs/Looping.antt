@@ -12,15 +12,15 @@ use lib.ListN.{length}
 use Rattle.base.specs.Test.{if}
 use Rattle.rules.specs.Control.{awaits, next, stateAt, step}
 use Rattle.rules.specs.Number.{Trap, trapNumber, badAddress, constantWrite, noEntry, noCase, impossibleExit, linksFull, aboveCount, badDigit, outcomeNumber, waits, used, stopped}
-use Rattle.rules.specs.Run.{ended, steps}
+use Rattle.rules.specs.Run.{addSteps, ended, steps}
 use Rattle.rules.specs.State.{State, Link}
-use Rattle.rules.proofs.Loops.{addSteps, addSteps-zero, loop-ends, loop-next, loop-waits}
+use Rattle.rules.proofs.Loops.{addSteps-zero, loop-ends, loop-next, loop-waits}
 use Rattle.exec_core.specs.Views.{answerBase}
-use Rattle.exec_core.specs.Seen.{Running, linksIn, placeOf, seen, stateBy, stepSeen}
+use Rattle.exec_core.specs.Seen.{Running, openLinks, placeOf, seen, stateBy, stepSeen}
 use Rattle.dispatch.proofs.After as After
 use Rattle.dispatch.proofs.After.{Ends}
 use Rattle.resuming.specs.Answers.{outcomeBy}
-use Rattle.machine.specs.Halting.{Halts, counted, haltedAt}
+use Rattle.machine.specs.Halting.{Halts, stepsTakenOf, haltedAt}
 
 -- before the first step
 pub run-first : (t : List ℕ) (k : ℕ) (s : State) → steps t k s ≡ addSteps (k - k) (steps t k s)
@@ -64,8 +64,8 @@ trap-awake linksFull = refl
 trap-awake aboveCount = refl
 trap-awake badDigit = refl
 
-trap-counted : (e : Trap) (i : ℕ) → counted (trapNumber e) i ≡ i
-unfolding counted if
+trap-counted : (e : Trap) (i : ℕ) → stepsTakenOf (trapNumber e) i ≡ i
+unfolding stepsTakenOf if
 trap-counted e i = rw (trap-awake e)
 
 -- a step waits or is stopped
@@ -73,11 +73,11 @@ module _ (t : List ℕ) (k b : ℕ) (z m : List ℕ) (ls : List Link) (r : ℕ) 
   abbrev HaltsAfter : ℕ → Type 0
   HaltsAfter n =
       addSteps (k - n) (steps t n (stateBy b z m ls))
-      ≡ ended (outcomeBy r) (counted r (k - n)) (haltedAt (record { how = r; b = b; left = n }) z′ m′ ls′)
+      ≡ ended (outcomeBy r) (stepsTakenOf r (k - n)) (haltedAt (record { how = r; b = b; left = n }) z′ m′ ls′)
 
   halts-waiting : (n : ℕ) → r ≡ outcomeNumber waits
       → step t (stateBy b z m ls) ≡ awaits (stateAt (record { words = z′; mem = m′ }) (placeOf b) true ls′) → HaltsAfter (suc n)
-  unfolding outcomeBy counted if
+  unfolding outcomeBy stepsTakenOf if
   halts-waiting n e h = loop-waits t (k - suc n) n _ _ h ∙ rw e
 
   halts : (n : ℕ) → Ends t b z m ls r z′ m′ ls′ → HaltsAfter (suc n)
@@ -91,19 +91,19 @@ module _ (t : List ℕ) (k b : ℕ) (z m : List ℕ) (ls : List Link) (r : ℕ) 
 
 -- The ways out of the loop that began at the entry from, with the words z₀, the memory m₀ and the links l₀.
 module _ {t : List ℕ} {from k : ℕ} {z₀ m₀ l₀ : List ℕ} {b : ℕ} {z m l : List ℕ} {c n : ℕ}
-    (so : steps t k (stateBy from z₀ m₀ (linksIn l₀)) ≡ addSteps (k - n) (steps t n (stateBy b z m (linksIn l))))
+    (so : steps t k (stateBy from z₀ m₀ (openLinks l₀)) ≡ addSteps (k - n) (steps t n (stateBy b z m (openLinks l))))
     (y : Running t b z m l c) (rest : n ≤ k) (room : length l ≡ length l₀) where
   -- the budget is used
   pub halts-used : n ≡ 0 → Halts t from k z₀ m₀ l₀ (record { how = outcomeNumber used; b = b; left = n }) z m l
-  unfolding outcomeBy counted if
+  unfolding outcomeBy stepsTakenOf if
   halts-used e = record { ended = so ∙ run-used t k n _ e; starts = y .starts; rest = rest; room = room }
 
   -- the code of a step answers below 64
-  pub halts-below : (n ≡ 0 → ⊥) → {r : ℕ} {z′ m′ l′ : List ℕ} → seen r z′ m′ (linksIn l′) ≡ stepSeen t b z m (linksIn l)
+  pub halts-below : (n ≡ 0 → ⊥) → {r : ℕ} {z′ m′ l′ : List ℕ} → seen r z′ m′ (openLinks l′) ≡ stepSeen t b z m (openLinks l)
       → length l′ ≡ length l → r < answerBase → Halts t from k z₀ m₀ l₀ (record { how = r; b = b; left = n }) z′ m′ l′
   halts-below h {r} {z′} {m′} {l′} e kept low =
       record {
-        ended = so ∙ run-halts t k b z m (linksIn l) r z′ m′ (linksIn l′) n h (After.ends y l′ e low);
+        ended = so ∙ run-halts t k b z m (openLinks l) r z′ m′ (openLinks l′) n h (After.ends y l′ e low);
         starts = y .starts;
         rest = rest;
         room = kept ∙ room;

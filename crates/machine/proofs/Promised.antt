@@ -24,11 +24,11 @@ use Rattle.rules.proofs.Loops.{answer-ran}
 use Rattle.rules.proofs.Steps.{Parts, parts}
 use Rattle.states.specs.Views.{codeOf, stateOf, wordsOf}
 use Rattle.states.specs.declared.State.{State}
-use Rattle.exec_core.specs.Seen.{Running, linksIn, placeOf, stateBy}
+use Rattle.exec_core.specs.Seen.{Running, openLinks, placeOf, stateBy}
 use Rattle.exec_core.proofs.Steps.{place-of}
 use Rattle.dispatch.proofs.After.{few-of}
 use Rattle.resuming.specs.Answers.{Runs, ends, refuses, outcomeBy, refusing, reportOf}
-use Rattle.machine.specs.Halting.{Halts, counted, haltedAt}
+use Rattle.machine.specs.Halting.{Halts, stepsTakenOf, haltedAt}
 use Rattle.resuming.specs.Packing.{Linked, Packable, Passed}
 use Rattle.resuming.specs.declared.answers.Answer.{Answer}
 use Rattle.resuming.specs.declared.answers.Ran.{Ran}
@@ -72,11 +72,11 @@ module _ (t : List ℕ) (s : State) (lent : List ℕ) (y : Passed t s lent) wher
 
   -- The state unpacked: at the entry from, with the words z and the links l.
   module _ (from : ℕ) (z l : List ℕ) (w : s .waiting ≡ false) (e : from ≡ entryAt (s .pc)) (i : z ≡ wordsOf s) (x : Linked (s .count) (s .links) l) where
-    pub unpacked-state : stateBy from z lent (linksIn l) ≡ s₀
+    pub unpacked-state : stateBy from z lent (openLinks l) ≡ s₀
     unpacked-state =
-        ap (λ (p : ℕ). stateAt (record { words = z; mem = lent }) p false (linksIn l)) (place-of from (s .pc) e)
-        ∙ ap (λ (v : List ℕ). stateAt (record { words = v; mem = lent }) (s .pc) false (linksIn l)) i
-        ∙ ap (λ (b : Bool). stateAt (record { words = wordsOf s; mem = lent }) (s .pc) b (linksIn l)) (sym w)
+        ap (λ (p : ℕ). stateAt (record { words = z; mem = lent }) p false (openLinks l)) (place-of from (s .pc) e)
+        ∙ ap (λ (v : List ℕ). stateAt (record { words = v; mem = lent }) (s .pc) false (openLinks l)) i
+        ∙ ap (λ (b : Bool). stateAt (record { words = wordsOf s; mem = lent }) (s .pc) b (openLinks l)) (sym w)
         ∙ ap (λ (ls : List Link). stateAt (record { words = wordsOf s; mem = lent }) (s .pc) (s .waiting) ls) (x .links)
 
     pub unpacked-runs : (c : ℕ) → c ≡ constants t → Running t from z lent l c
@@ -93,13 +93,13 @@ module _ (t : List ℕ) (s : State) (lent : List ℕ) (y : Passed t s lent) wher
 
     module _ (k : ℕ) (h : k ≤ maxBudget) (r : Halted) (z′ m′ l′ : List ℕ) (d : Halts t from k z lent l r z′ m′ l′) where
       -- the run ends where the loop halts
-      pub halted-answer : answer t s₀ (runs k) ≡ ended (outcomeBy (r .how)) (counted (r .how) (k - r .left)) (haltedAt r z′ m′ (linksIn l′))
+      pub halted-answer : answer t s₀ (runs k) ≡ ended (outcomeBy (r .how)) (stepsTakenOf (r .how) (k - r .left)) (haltedAt r z′ m′ (openLinks l′))
       halted-answer = run-awake k h w ∙ ap (steps t k) (sym unpacked-state) ∙ d .ended
 
       -- and what stands there can be packed
       pub halted-packs : Packable l′ (placeOf (r .b))
       halted-packs =
-          let q : Parts t (haltedAt r z′ m′ (linksIn l′)) = parts t (haltedAt r z′ m′ (linksIn l′)) (left-passes t s lent y (runs k) _ _ _ halted-answer) in
+          let q : Parts t (haltedAt r z′ m′ (openLinks l′)) = parts t (haltedAt r z′ m′ (openLinks l′)) (left-passes t s lent y (runs k) _ _ _ halted-answer) in
           let room : length l′ ≡ 257 = d .room ∙ x .room in
           record {
             room = room;

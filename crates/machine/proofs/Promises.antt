@@ -8,17 +8,16 @@ use native.Mathlib.Omega.{arith}
 use Rattle.base.specs.Test.{Ok}
 use Rattle.rules.specs.Check.{tableOk}
 use Rattle.rules.specs.Claim.{CallClaim}
-use Rattle.rules.specs.Control.{Exit, exitOf, impossible, missing, toErrors, toPlace}
-use Rattle.rules.specs.Number.{Outcome, Verdict, granted, refusedBy}
+use Rattle.rules.specs.Number.{Outcome}
 use Rattle.rules.specs.Run as Run
-use Rattle.rules.specs.Run.{Call, answer, arriveBy, ended, left, nowhere, perform, refused, resumes, runs, unlessRefused, verdict}
+use Rattle.rules.specs.Run.{Call, answer, ended, left, nowhere, refused, resumes, runs}
 use Rattle.rules.specs.State as Rules
 use Rattle.rules.specs.State.{stateOk}
-use Rattle.rules.proofs.Runs.{call-ok}
+use Rattle.rules.proofs.Runs.{call-ok, resume-keeps}
 use Rattle.rules.proofs.Steps.{parts, sound}
 use Rattle.states.specs.declared.State.{State}
 use Rattle.states.specs.Views.{stateOf}
-use Rattle.resuming.specs.Answers.{Report, Resumes, Runs, answerOf, codeAfter, ends, refuses, reportOf}
+use Rattle.resuming.specs.Answers.{Report, Resumes, Runs, answeredBy, codeAfter, ends, refuses, reportOf}
 use Rattle.resuming.specs.declared.waiting.Resumed.{Resumed}
 use Rattle.resuming.specs.declared.answers.Ran.{Ran}
 
@@ -28,31 +27,16 @@ mark (ended o k s) = 1
 mark nowhere = 2
 
 -- the state of an answer that is an outcome
-state-of : (p : Report) (k : ℕ) (s : Rules.State) (o : Outcome) (n : ℕ) (s′ : Rules.State) → answerOf p k s ≡ ended o n s′ → s ≡ s′
+state-of : (p : Report) (k : ℕ) (s : Rules.State) (o : Outcome) (n : ℕ) (s′ : Rules.State) → answeredBy p k s ≡ ended o n s′ → s ≡ s′
 state-of (ends u) k s o n s′ e = ap (left s) e
 state-of (refuses u) k s o n s′ e = absurd (let z : _≡_ {A = ℕ} 0 1 = ap mark e in omega arith)
 
 -- the code's state afterwards is the one that the answer leaves
-left-is : (s c : State) (lent after : List ℕ) (p : Report) (k : ℕ) (a : Run.Answer) → answerOf p k (stateOf c after) ≡ a
+left-is : (s c : State) (lent after : List ℕ) (p : Report) (k : ℕ) (a : Run.Answer) → answeredBy p k (stateOf c after) ≡ a
     → after ≡ left (stateOf s lent) a .core .mem → c ≡ codeAfter s a → stateOf c after ≡ left (stateOf s lent) a
 left-is s c lent after p k (refused e) u m h = rw (h, m)
 left-is s c lent after p k (ended o n s′) u m h = state-of p k (stateOf c after) o n s′ u
 left-is s c lent after p k nowhere u m h = rw (h, m)
-
--- a resume keeps memory
-arrive-keeps : (t : List ℕ) (s : Rules.State) (e : Exit) → s .core .mem ≡ left s (arriveBy t s e) .core .mem
-arrive-keeps t s (toPlace q) = refl
-arrive-keeps t s (toErrors c) = refl
-arrive-keeps t s impossible = refl
-arrive-keeps t s missing = refl
-
-resume-keeps : (t : List ℕ) (s : Rules.State) (x : ℕ) → s .core .mem ≡ left s (answer t s (resumes x)) .core .mem
-unfolding answer perform
-resume-keeps t s x = go (verdict t s (resumes x))
-  where
-    go : (v : Verdict) → s .core .mem ≡ left s (unlessRefused v (arriveBy t s (exitOf t (s .pc) x))) .core .mem
-    go granted = arrive-keeps t s (exitOf t (s .pc) x)
-    go (refusedBy e) = refl
 
 module _ (t : List ℕ) (s : State) (lent : List ℕ) where
   -- what a call leaves passes the state check, if what was lent did

@@ -11,13 +11,13 @@ use Rattle.rules.specs.Number.{outcomeNumber, waits}
 use Rattle.rules.specs.Run as Run
 use Rattle.rules.specs.State.{State, Link}
 use Rattle.rules.specs.Table.{entryAt}
-use Rattle.exec_core.specs.Seen.{linksIn, placeOf, stateBy}
+use Rattle.exec_core.specs.Seen.{openLinks, placeOf, stateBy}
 use Rattle.resuming.specs.Answers.{outcomeBy}
 use Rattle.machine.specs.declared.steps.Halted.{Halted}
 
 -- the steps of a run that took i of them before its last attempt
-unfoldable pub counted : ℕ → ℕ → ℕ
-counted how i = if (eqb how (outcomeNumber waits)) (i + 1) i
+unfoldable pub stepsTakenOf : ℕ → ℕ → ℕ
+stepsTakenOf how i = if (eqb how (outcomeNumber waits)) (i + 1) i
 
 -- the state there: it waits where its ending says so
 abbrev pub haltedAt : Halted → List ℕ → List ℕ → List Link → State
@@ -25,7 +25,7 @@ haltedAt r z m ls = stateAt (record { words = z; mem = m }) (placeOf (r .b)) (eq
 
 -- the run of the rules ends so, at an entry, with no more left than there was, and the links keep their room
 pub record Halts (t : List ℕ) (from budget : ℕ) (z m l : List ℕ) (r : Halted) (z′ m′ l′ : List ℕ) : Type 0 where
-  pub ended : Run.steps t budget (stateBy from z m (linksIn l)) ≡ Run.ended (outcomeBy (r .how)) (counted (r .how) (budget - r .left)) (haltedAt r z′ m′ (linksIn l′))
+  pub ended : Run.steps t budget (stateBy from z m (openLinks l)) ≡ Run.ended (outcomeBy (r .how)) (stepsTakenOf (r .how) (budget - r .left)) (haltedAt r z′ m′ (openLinks l′))
   pub starts : r .b ≡ entryAt (placeOf (r .b))
   pub rest : r .left ≤ budget
   pub room : length l′ ≡ length l

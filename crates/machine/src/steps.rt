@@ -3,7 +3,7 @@ ghost use mathlib.Core.Path.{_≡_};
 ghost use Prim.Native.Nat.{_-_, _≤_};
 ghost use Rattle.ops.specs.Machine.{maxBudget};
 ghost use Rattle.exec_core.specs.Seen.{Running};
-ghost use Rattle.machine.specs.Halting.{Halts, counted};
+ghost use Rattle.machine.specs.Halting.{Halts, stepsTakenOf};
 use dispatch::dispatch;
 use exec_core::Answer;
 use resuming::answers::USED;
@@ -18,7 +18,7 @@ pub struct Halted {
 // The steps that a run took: a JSR to an EXP is one, a step that a trap stops is none [S What 003 leaves open].
 pub fn steps_taken(how: usize, budget: u32, left: u32) -> u32
     requires { ⌜ (left ≤ budget) × (budget ≤ maxBudget) ⌝ }
-    ensures { λ r. ⌜ r ≡ counted how (budget - left) ⌝ }
+    ensures { λ r. ⌜ r ≡ stepsTakenOf how (budget - left) ⌝ }
 {
     if how == Answer::WAITS {
         return budget - left + 1;

@@ -20,6 +20,7 @@ use lent::WORDS;
 use lent::XL;
 use lent::XR;
 use lent::XS;
+use libc::STDERR_FILENO;
 use libc::STDOUT_FILENO;
 use ops::constants::Machine;
 
@@ -123,10 +124,33 @@ pub fn run_cards(cards: &[u8]) {
     run_front(&room, value as usize);
 }
 
-// The line of the cards that an open file holds.
-pub fn tell_cards(fd: i32) {
+// Whether nothing is left to read behind n bytes of a room: it is full, or one more read finds the end. What failed is told on standard error,
+// under the input's name; a read that failed and then goes on is one that cut the cards.
+fn is_read(fd: i32, name: &[u8], n: usize) -> bool {
+    if TEXT <= n {
+        return true;
+    }
+    let mut behind = [0u8; 1];
+    let more = libc::read(fd, &mut behind);
+    if more < 0 {
+        os::fail(name);
+        return false;
+    }
+    if 0 < more {
+        write_all(STDERR_FILENO, name);
+        write_all(STDERR_FILENO, b": a read failed\n");
+        return false;
+    }
+    true
+}
+
+// The line of the cards that an open file holds; where it cannot be read no line, and why on standard error, under its name.
+pub fn tell_cards(fd: i32, name: &[u8]) {
     let mut text = [0u8; TEXT];
     let n = read_full(fd, &mut text);
+    if !is_read(fd, name, n) {
+        return;
+    }
     run_cards(&text[..n]);
     write_all(STDOUT_FILENO, b"\n");
 }

@@ -12,14 +12,13 @@ use Rattle.rules.specs.Check.{tableOk}
 use Rattle.rules.specs.Claim.{CallClaim}
 use Rattle.rules.specs.Number.{Outcome, Refusal, badTable, badState, Verdict, granted, refusedBy}
 use Rattle.rules.specs.Run as Run
-use Rattle.rules.specs.Run.{Call, answer, ended, left, ofCall, perform, refused, unlessRefused, verdict}
+use Rattle.rules.specs.Run.{admitted, Call, answer, ended, left, ofCall, perform, refused, unlessRefused, verdict}
 use Rattle.rules.specs.State as Rules
 use Rattle.rules.specs.State.{stateOk}
 use Rattle.rules.proofs.Canonical.{Clean, answer-clean, canonical-own, own-canonical}
 use Rattle.rules.proofs.Files.{bit-le}
 use Rattle.rules.proofs.Runs.{call-ok}
 use Rattle.rules.proofs.Steps.{parts, sound}
-use Rattle.admission.specs.Admit.{admitted}
 use Rattle.states.specs.Views.{codeOf, stateOf}
 use Rattle.states.specs.declared.State.{State}
 use Rattle.states.proofs.Coded.{code-view}

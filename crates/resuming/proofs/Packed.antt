@@ -10,7 +10,7 @@ use lib.Seq.{getD-set-same, length-take-le, take-all, take-at, take-set-le, take
 use Rattle.base.specs.Lists.{_at_}
 use Rattle.states.proofs.Coded.{drop-replicate}
 use Rattle.states.proofs.Front.{links-front}
-use Rattle.exec_core.specs.Seen.{linksIn}
+use Rattle.exec_core.specs.Seen.{openLinks}
 use Rattle.resuming.specs.Packing.{Linked}
 
 -- one more word is copied
@@ -45,10 +45,10 @@ unpacked ls x z i k d few full room e = rw d (unpacked-to ls x z k few full room
 
 module _ (l : List ℕ) (room : length l ≡ 257) (few : l at 256 ≤ 256) where
   -- how many links are open
-  pub packed-count : length (linksIn l) ≡ l at 256
+  pub packed-count : length (openLinks l) ≡ l at 256
   packed-count = length-take-le (l at 256) l (omega arith)
 
   -- the links in an array of 0s
   pub packed-links : (x z : List ℕ) (k : ℕ) → k ≡ l at 256 → x ≡ take k l → z ≡ replicate 256 0
-      → x ++ drop k z ≡ linksIn l ++ replicate (256 - l at 256) 0
+      → x ++ drop k z ≡ openLinks l ++ replicate (256 - l at 256) 0
   packed-links x z k e h f = rw (h, f, e, drop-replicate (l at 256) 256)

@@ -8,7 +8,7 @@ use Rattle.base.specs.Test.{if}
 use Rattle.rules.specs.Number.{trapNumber, badAddress, constantWrite, noEntry, noCase, impossibleExit, linksFull, aboveCount, badDigit, Outcome, outcomeNumber, waits, used, resumed, stopped, Refusal, refusalNumber, badTable, badState, overBudget, notResumable}
 use Rattle.rules.specs.State as Rules
 use Rattle.rules.specs.Run as Run
-use Rattle.rules.specs.Run.{answer, ended, left, nowhere, refused, resumes, runs}
+use Rattle.rules.specs.Run.{answer, ended, left, nowhere, refused, resumes, runs, stepsIn}
 use Rattle.states.specs.declared.State.{State}
 use Rattle.states.specs.Views.{codeOf, stateOf}
 use Rattle.resuming.specs.declared.answers.Answer.{Answer}
@@ -40,9 +40,9 @@ reportOf answers.OverBudget = refuses overBudget
 reportOf answers.NotResumable = refuses notResumable
 
 -- its number
-abbrev pub numberOf : Report → ℕ
-numberOf (ends o) = outcomeNumber o
-numberOf (refuses e) = refusalNumber e
+abbrev pub reportNumber : Report → ℕ
+reportNumber (ends o) = outcomeNumber o
+reportNumber (refuses e) = refusalNumber e
 
 -- the outcome with the number n
 unfoldable pub outcomeBy : ℕ → Outcome
@@ -54,18 +54,12 @@ outcomeBy n =
     (if (eqb n (trapNumber aboveCount)) (stopped aboveCount) (if (eqb n (trapNumber badDigit)) (stopped badDigit) resumed)))))))))
 
 -- the rules' view of an answer, with its steps and the state that it leaves
-abbrev pub answerOf : Report → ℕ → Rules.State → Run.Answer
-answerOf (ends o) k s = ended o k s
-answerOf (refuses e) k s = refused e
+abbrev pub answeredBy : Report → ℕ → Rules.State → Run.Answer
+answeredBy (ends o) k s = ended o k s
+answeredBy (refuses e) k s = refused e
 
 abbrev pub ranOf : Ran → List ℕ → Run.Answer
-ranOf r mem = answerOf (reportOf (r .answer)) (r .steps) (stateOf (r .state) mem)
-
--- the steps of an answer, none of a refusal
-abbrev pub stepsIn : Run.Answer → ℕ
-stepsIn (refused e) = 0
-stepsIn (ended o k s) = k
-stepsIn nowhere = 0
+ranOf r mem = answeredBy (reportOf (r .answer)) (r .steps) (stateOf (r .state) mem)
 
 -- the code's state afterwards: that which an outcome leaves, with 0 behind its links, or the one that was lent
 abbrev pub codeAfter : State → Run.Answer → State
@@ -86,7 +80,7 @@ pub record Runs (t : List ℕ) (s : State) (lent : List ℕ) (k : ℕ) (r : Ran)
 
 -- a resume takes no step, and its memory is the lent one
 abbrev pub resumedOf : Resumed → List ℕ → Run.Answer
-resumedOf r mem = answerOf (reportOf (r .answer)) 0 (stateOf (r .state) mem)
+resumedOf r mem = answeredBy (reportOf (r .answer)) 0 (stateOf (r .state) mem)
 
 abbrev pub declining : Answer → State → Resumed
 declining a s = record { answer = a; state = s }

@@ -14,7 +14,7 @@ use Rattle.rules.specs.State as Rules
 use Rattle.rules.specs.State.{Link, stateOk}
 use Rattle.states.specs.declared.State.{State}
 use Rattle.states.specs.Views.{linksOf, stateOf}
-use Rattle.exec_core.specs.Seen.{linksIn}
+use Rattle.exec_core.specs.Seen.{openLinks}
 
 -- a state beside its memory
 abbrev pub bare : List ℕ → ℕ → Bool → List Link → Rules.State
@@ -24,7 +24,7 @@ bare z p w ls = stateAt (record { words = z; mem = [] }) p w ls
 pub record Linked (k : ℕ) (ls l : List ℕ) : Type 0 where
   pub room : length l ≡ maxLinks + 1
   pub count : l at maxLinks ≡ k
-  pub links : linksIn l ≡ linksOf k ls
+  pub links : openLinks l ≡ linksOf k ls
 
 -- the lent words hold at most as many links as a state has room for, and the place is a word
 pub record Packable (l : List ℕ) (p : ℕ) : Type 0 where

@@ -1,6 +1,6 @@
 // The answers of a run and of a resume, each with its number [S Numbers the host sees].
 ghost use mathlib.Core.Path.{_≡_};
-ghost use Rattle.resuming.specs.Answers.{numberOf, outcomeBy, refusing, reportOf};
+ghost use Rattle.resuming.specs.Answers.{reportNumber, outcomeBy, refusing, reportOf};
 ghost use Rattle.resuming.specs.Answers as Report;
 use exec_core::Answer as Code;
 use states::State;
@@ -30,7 +30,7 @@ pub const USED: usize = 21;
 
 // The number of an answer.
 pub fn number(answer: Answer) -> u32
-    ensures { λ r. ⌜ r ≡ numberOf (reportOf answer) ⌝ }
+    ensures { λ r. ⌜ r ≡ reportNumber (reportOf answer) ⌝ }
 {
     match answer {
         Answer::Resumed => 0,

@@ -4,7 +4,7 @@ ghost use Prim.Native.Nat.{_≤_};
 ghost use mathlib.Core.List.{[]};
 ghost use lib.ListN.{length};
 ghost use Rattle.states.specs.Views.{codeOf, stateOf, wordsOf};
-ghost use Rattle.exec_core.specs.Seen.{linksIn};
+ghost use Rattle.exec_core.specs.Seen.{openLinks};
 ghost use Rattle.resuming.specs.Packing.{Linked, Packable, bare};
 use bodies::entry::index;
 use ops::constants::Machine;
@@ -65,7 +65,7 @@ pub fn unpack_links(s: State) -> [u32; 257]
 // The state of these words and links at place p; links from the count on are 0.
 pub fn pack(z: &[u32; 16], links: &[u32], p: usize, waiting: bool) -> State
     requires { ⌜ Packable (now links) p ⌝ }
-    ensures { λ r. ⌜ r ≡ codeOf (bare (now (z .entry)) p waiting (linksIn (now (links .entry)))) ⌝ }
+    ensures { λ r. ⌜ r ≡ codeOf (bare (now (z .entry)) p waiting (openLinks (now (links .entry)))) ⌝ }
 {
     let count = links[Machine::MAX_LINKS];
     let k = index(count);

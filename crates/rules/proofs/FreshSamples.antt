@@ -20,5 +20,5 @@ supplied-in-order = refl
 
 -- a file shows neither
 pub hidden-both : hidden table memory ≡ 10 ∷ 0 ∷ 12 ∷ 0 ∷ 14 ∷ []
-unfolding hidden refreshed supplied freshCount freshAt size
+unfolding refreshed supplied freshCount freshAt size
 hidden-both = refl

@@ -1,3 +1,5 @@
 pub mod ListFaults
 pub mod BodyFaults
 pub mod LayoutFaults
+pub mod Operations
+pub mod Orders

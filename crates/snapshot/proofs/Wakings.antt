@@ -21,7 +21,7 @@ use Rattle.rules.proofs.Restores.{wakes-restore}
 use Rattle.states.specs.declared.State.{State}
 use Rattle.states.specs.Views.{codeOf}
 use Rattle.admission.proofs.Admits.{skip, stop}
-use Rattle.snapshot.specs.Answers.{Restores, answerOf, refusing}
+use Rattle.snapshot.specs.Answers.{Restores, restoredBy, refusing}
 use Rattle.snapshot.specs.declared.waking.Answer.{Answer}
 use Rattle.snapshot.specs.declared.waking.Answer.the-variants.{Woken, BadTable, BadTrailer, OtherProgram, BadFrozen, FreshCountOff, MemoryLengthOff}
 use Rattle.snapshot.specs.declared.waking.Restored.{Restored}
@@ -29,7 +29,7 @@ use Rattle.snapshot.proofs.Machines.{frozen-view}
 
 -- a refusal
 refuses : (t file : List ℕ) (build : ℕ) (fs lent : List ℕ) (r : Restored) (a : Answer) (e : Refusal)
-    → ((s : Rules.State) → answerOf a s ≡ unwoken e) → restoreOf t file build fs lent ≡ unwoken e → r ≡ refusing a
+    → ((s : Rules.State) → restoredBy a s ≡ unwoken e) → restoreOf t file build fs lent ≡ unwoken e → r ≡ refusing a
     → Restores t file build fs lent r lent
 refuses t file build fs lent r a e v u h =
     record { answer = rw (h, u) (v _); memory = rw u; state = rw (h, u) }

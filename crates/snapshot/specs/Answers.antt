@@ -7,7 +7,7 @@ use lib.ListN.{length}
 use Rattle.rules.specs.Number.{badTable, badState, shortRoom, badTrailer, otherProgram, badFrozen, freshCountOff, memoryLengthOff}
 use Rattle.rules.specs.State as Rules
 use Rattle.rules.specs.Snapshot as Snapshot
-use Rattle.rules.specs.Snapshot.{fileOf, filled, restoreOf, unwoken, unwritten, woken, writeOf}
+use Rattle.rules.specs.Snapshot.{fileOf, filled, memoryWoken, restoreOf, roomAfter, unwoken, unwritten, woken, writeOf}
 use Rattle.states.specs.declared.State.{State}
 use Rattle.states.specs.Views.{blank, codeOf, stateOf}
 use Rattle.snapshot.specs.declared.waking.Answer.{Answer}
@@ -21,33 +21,28 @@ abbrev pub refusing : Answer → Restored
 refusing a = record { answer = a; state = blank }
 
 -- the rules' view of an answer, with the machine that it has if it is woken
-abbrev pub answerOf : Answer → Rules.State → Snapshot.Restored
-answerOf Woken s = woken s
-answerOf BadTable s = unwoken badTable
-answerOf BadTrailer s = unwoken badTrailer
-answerOf OtherProgram s = unwoken otherProgram
-answerOf BadFrozen s = unwoken badFrozen
-answerOf FreshCountOff s = unwoken freshCountOff
-answerOf MemoryLengthOff s = unwoken memoryLengthOff
+abbrev pub restoredBy : Answer → Rules.State → Snapshot.Restored
+restoredBy Woken s = woken s
+restoredBy BadTable s = unwoken badTable
+restoredBy BadTrailer s = unwoken badTrailer
+restoredBy OtherProgram s = unwoken otherProgram
+restoredBy BadFrozen s = unwoken badFrozen
+restoredBy FreshCountOff s = unwoken freshCountOff
+restoredBy MemoryLengthOff s = unwoken memoryLengthOff
 
 abbrev pub restoredOf : Restored → List ℕ → Snapshot.Restored
-restoredOf r mem = answerOf (r .answer) (stateOf (r .state) mem)
-
--- the lent memory afterwards: the woken machine's, or as it was
-abbrev pub memoryAfter : Snapshot.Restored → List ℕ → List ℕ
-memoryAfter (woken s) lent = s .core .mem
-memoryAfter (unwoken e) lent = lent
+restoredOf r mem = restoredBy (r .answer) (stateOf (r .state) mem)
 
 -- the code's state afterwards: the woken machine's, or blank
-abbrev pub stateAfter : Snapshot.Restored → State
-stateAfter (woken s) = codeOf s
-stateAfter (unwoken e) = blank
+abbrev pub stateWoken : Snapshot.Restored → State
+stateWoken (woken s) = codeOf s
+stateWoken (unwoken e) = blank
 
 -- restore's promise: its answer and machine, the lent memory and the state are those of the definition, refusals included
 pub record Restores (t file : List ℕ) (build : ℕ) (fs lent : List ℕ) (r : Restored) (after : List ℕ) : Type 0 where
   pub answer : restoredOf r after ≡ restoreOf t file build fs lent
-  pub memory : after ≡ memoryAfter (restoreOf t file build fs lent) lent
-  pub state : r .state ≡ stateAfter (restoreOf t file build fs lent)
+  pub memory : after ≡ memoryWoken (restoreOf t file build fs lent) lent
+  pub state : r .state ≡ stateWoken (restoreOf t file build fs lent)
 
 -- the rules' view of the writer's answer, with the room afterwards
 abbrev pub writtenOf : Written → List ℕ → Snapshot.Written
@@ -63,11 +58,7 @@ bytesWritten written.BadTable = 0
 bytesWritten BadState = 0
 bytesWritten ShortRoom = 0
 
--- the room afterwards: filled, or as it was; and the bytes written of a file of n
-abbrev pub roomAfter : Snapshot.Written → List ℕ → List ℕ
-roomAfter (filled after) room = after
-roomAfter (unwritten e) room = room
-
+-- the bytes written of a file of n
 abbrev pub bytesAfter : Snapshot.Written → ℕ → ℕ
 bytesAfter (filled after) n = n
 bytesAfter (unwritten e) n = 0

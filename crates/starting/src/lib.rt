@@ -1,7 +1,8 @@
 // The start of a program in the memory that the host lends [S The house machine].
 // Any table, memory and fresh words may be lent. A refusal changes no lent word. Refusals are judged in this order: 30, 10, 43.
 ghost use mathlib.Core.Path.{_≡_};
-ghost use Rattle.starting.specs.Answers.{Starts, numberOf, refusing, verdictOf};
+ghost use Rattle.rules.specs.Number.{verdictNumber};
+ghost use Rattle.starting.specs.Answers.{Starts, refusing, verdictOf};
 use loading::fresh_count;
 use loading::load;
 use states::State;
@@ -24,7 +25,7 @@ pub struct Started {
 
 // The number of an answer.
 pub fn number(answer: Answer) -> u32
-    ensures { λ r. ⌜ r ≡ numberOf (verdictOf answer) ⌝ }
+    ensures { λ r. ⌜ r ≡ verdictNumber (verdictOf answer) ⌝ }
 {
     match answer {
         Answer::Begun => 0,

@@ -4,6 +4,7 @@ ghost use mathlib.Core.Bool.{true};
 ghost use Prim.Native.Nat.{_+_, _*_, _≤_, _<_};
 ghost use lib.Dec.{eqb};
 ghost use lib.ListN.{length, getD};
+ghost use Rattle.ops.specs.Machine.{cfpB};
 ghost use Rattle.rules.specs.Check.{limitsOk, sectionsOk, freshOk, countsOk, layoutOk};
 ghost use Rattle.rules.specs.Table.{tableLength, constants, freshCount, externals};
 ghost use Rattle.table_layout.specs.Laid.{Limited, Laid};
@@ -100,7 +101,7 @@ pub fn sections_ok(table: &[u32]) -> bool
 // The fresh addresses rise, name working words, and their starting words are 0 [S The table].
 fn fresh_ok(table: &[u32]) -> bool
     requires { ⌜ Laid (now table) ⌝ }
-    ensures { λ r. ⌜ r ≡ freshOk (now (table .entry)) (4 * getD (now (table .entry)) 1 0) 0 (getD (now (table .entry)) 3 0) ⌝ }
+    ensures { λ r. ⌜ r ≡ freshOk (now (table .entry)) (cfpB * getD (now (table .entry)) 1 0) 0 (getD (now (table .entry)) 3 0) ⌝ }
 {
     let c = index(table[1]);
     let limit = BYTES * (c + index(table[2]));

@@ -19,7 +19,7 @@ use Rattle.rules.specs.Exec.{changes, copies, combines, tells, compares, loads,
 use Rattle.rules.specs.Control.{stateAt, exitOf, choose, effectOf, step}
 use Rattle.rules.specs.Run.{Answer, refused, ended, nowhere, Call, runs, resumes, left, steps, ran, verdict, perform, answer}
 use Rattle.rules.specs.Start.{ownWords, Started, begun, unbegun, filled, supplied, refreshed, loaded, started, startOf}
-use Rattle.rules.proofs.Vectors.{reference, begins}
+use Rattle.rules.specs.Reference.{reference, begins}
 use Rattle.rules.proofs.Samples.{sampleMachine}
 use Rattle.states.specs.Views.{linksOf}
 use Rattle.lent.specs.Lent.{stateFrom}

@@ -1,6 +1,6 @@
 // Two machines to freeze: the reference program's, waiting at its JSR of SYSXX, and one in the second call of a procedure, with a fresh word.
 ghost use mathlib.Core.Path.{_≡_};
-ghost use Rattle.rules.proofs.Vectors.{reference};
+ghost use Rattle.rules.specs.Reference.{reference};
 ghost use Rattle.rules.proofs.Samples.{sampleTable};
 ghost use Rattle.vectors.specs.Machines.{calledWords, waitingWords};
 

@@ -7,7 +7,7 @@ use Rattle.ops.specs.Ops as Op
 use Rattle.ops.specs.Ops.{rows}
 use Rattle.exec_core.specs.Views.{does}
 use Rattle.exec_core.specs.Entry.{branching, going, heldHere, inRegister, isPlace, pointing, readable, writable}
-use Rattle.exec_core.specs.Seen.{linksIn}
+use Rattle.exec_core.specs.Seen.{openLinks}
 use Rattle.exec_core.proofs.Entries.{entry-of, ready-inside}
 use Rattle.exec_core.proofs.Steps.{ready, memory-most, goes-step, forks-step, controls-step}
 use Rattle.exec_integers.specs.Integers.{steady}
@@ -291,22 +291,22 @@ returns c = (goes-step (c .before .before .before .before .before .before .befor
 
 returns-2 : tie.Need-returns-2
 unfolding rows if
-returns-2 c = (c .brn .ensures (c .before .before .before .before .before .args .c) (c .before .before .before .before .before .args .z .now) (c .before .before .before .before .before .args .m .now) (linksIn (c .before .before .before .before .before .args .links .now)) ∙ controls-step (c .before .before .before .before .before .pre) 102 Class.BRN Op.idle (c .before .match .keys2) refl refl, refl)
+returns-2 c = (c .brn .ensures (c .before .before .before .before .before .args .c) (c .before .before .before .before .before .args .z .now) (c .before .before .before .before .before .args .m .now) (openLinks (c .before .before .before .before .before .args .links .now)) ∙ controls-step (c .before .before .before .before .before .pre) 102 Class.BRN Op.idle (c .before .match .keys2) refl refl, refl)
 
 returns-3 : tie.Need-returns-3
 unfolding rows if
-returns-3 c = (c .bsw .ensures (c .before .before .before .before .before .before .args .c) (c .before .before .before .before .before .before .args .m .now) (linksIn (c .before .before .before .before .before .before .args .links .now)) ∙ controls-step (c .before .before .before .before .before .before .pre) 103 Class.BSW Op.reads (c .before .before .match .keys3) refl refl, refl)
+returns-3 c = (c .bsw .ensures (c .before .before .before .before .before .before .args .c) (c .before .before .before .before .before .before .args .m .now) (openLinks (c .before .before .before .before .before .before .args .links .now)) ∙ controls-step (c .before .before .before .before .before .before .pre) 103 Class.BSW Op.reads (c .before .before .match .keys3) refl refl, refl)
 
 returns-4 : tie.Need-returns-4
 unfolding rows if
-returns-4 c = (c .ent .ensures (c .before .before .before .before .before .args .c) (c .before .before .before .before .before .args .z .now) (c .before .before .before .before .before .args .m .now) (linksIn (c .before .before .before .before .before .args .links .now)) ∙ controls-step (c .before .before .before .before .before .pre) 106 Class.ENT Op.idle (c .before .match .keys4) refl refl, refl)
+returns-4 c = (c .ent .ensures (c .before .before .before .before .before .args .c) (c .before .before .before .before .before .args .z .now) (c .before .before .before .before .before .args .m .now) (openLinks (c .before .before .before .before .before .args .links .now)) ∙ controls-step (c .before .before .before .before .before .pre) 106 Class.ENT Op.idle (c .before .match .keys4) refl refl, refl)
 
 same-length-2 : tie.Need-same-length-2
 same-length-2 c = refl
 
 returns-5 : tie.Need-returns-5
 unfolding rows if
-returns-5 c = (c .bri .ensures (c .before .before .before .before .before .before .before .args .c) (linksIn (c .before .before .before .before .before .before .before .args .links .now)) ∙ controls-step (c .before .before .before .before .before .before .before .pre) 107 Class.BRI Op.reads (c .before .before .before .match .keys5) refl refl, refl)
+returns-5 c = (c .bri .ensures (c .before .before .before .before .before .before .before .args .c) (openLinks (c .before .before .before .before .before .before .before .args .links .now)) ∙ controls-step (c .before .before .before .before .before .before .before .pre) 107 Class.BRI Op.reads (c .before .before .before .match .keys5) refl refl, refl)
 
 returns-6 : tie.Need-returns-6
 unfolding rows if
@@ -322,7 +322,7 @@ returns-8 c = (c .exi .ensures .0 (c .before .before .before .before .before .be
 
 returns-9 : tie.Need-returns-9
 unfolding rows if
-returns-9 c = (c .erb .ensures (c .before .before .before .before .before .before .args .c) (c .before .before .before .before .before .before .args .m .now) (linksIn (c .before .before .before .before .before .before .args .links .now)) ∙ controls-step (c .before .before .before .before .before .before .pre) 115 Class.ERB Op.idle (c .before .before .match .keys9) refl refl, refl)
+returns-9 c = (c .erb .ensures (c .before .before .before .before .before .before .args .c) (c .before .before .before .before .before .before .args .m .now) (openLinks (c .before .before .before .before .before .before .args .links .now)) ∙ controls-step (c .before .before .before .before .before .before .pre) 115 Class.ERB Op.idle (c .before .before .match .keys9) refl refl, refl)
 
 same-length-3 : tie.Need-same-length-3
 same-length-3 c = c .before .before .icv .kept .1 .1 .0
@@ -368,11 +368,11 @@ returns-15 c = (c .sss .ensures .0 (c .before .before .before .before .before .b
 
 returns-16 : tie.Need-returns-16
 unfolding rows if
-returns-16 c = (c .rtn .ensures (c .before .before .before .before .before .args .c) (c .before .before .before .before .before .args .z .now) (c .before .before .before .before .before .args .m .now) (linksIn (c .before .before .before .before .before .args .links .now)) ∙ controls-step (c .before .before .before .before .before .pre) 122 Class.RTN Op.idle (c .before .match .keys16) refl refl, refl)
+returns-16 c = (c .rtn .ensures (c .before .before .before .before .before .args .c) (c .before .before .before .before .before .args .z .now) (c .before .before .before .before .before .args .m .now) (openLinks (c .before .before .before .before .before .args .links .now)) ∙ controls-step (c .before .before .before .before .before .pre) 122 Class.RTN Op.idle (c .before .match .keys16) refl refl, refl)
 
 returns-17 : tie.Need-returns-17
 unfolding rows if
-returns-17 c = (c .jmg .ensures (c .before .before .before .before .before .args .c) (c .before .before .before .before .before .args .z .now) (c .before .before .before .before .before .args .m .now) (linksIn (c .before .before .before .before .before .args .links .now)) ∙ controls-step (c .before .before .before .before .before .pre) 123 Class.JMG Op.idle (c .before .match .keys17) refl refl, refl)
+returns-17 c = (c .jmg .ensures (c .before .before .before .before .before .args .c) (c .before .before .before .before .before .args .z .now) (c .before .before .before .before .before .args .m .now) (openLinks (c .before .before .before .before .before .args .links .now)) ∙ controls-step (c .before .before .before .before .before .pre) 123 Class.JMG Op.idle (c .before .match .keys17) refl refl, refl)
 
 same-length-9 : tie.Need-same-length-9
 same-length-9 c = c .before .before .add .kept .1 .1 .0
@@ -759,7 +759,7 @@ same-length-49 c = refl
 
 returns-83 : tie.Need-returns-83
 unfolding rows if
-returns-83 c = (c .chk .ensures (c .before .before .before .before .before .before .before .args .c) (linksIn (c .before .before .before .before .before .before .before .args .links .now)) ∙ controls-step (c .before .before .before .before .before .before .before .pre) 1001 Class.CHK Op.checks (c .before .before .before .match .keys83) refl refl, refl)
+returns-83 c = (c .chk .ensures (c .before .before .before .before .before .before .before .args .c) (openLinks (c .before .before .before .before .before .before .before .args .links .now)) ∙ controls-step (c .before .before .before .before .before .before .before .pre) 1001 Class.CHK Op.checks (c .before .before .before .match .keys83) refl refl, refl)
 
 returns-84 : tie.Need-returns-84
 unfolding rows

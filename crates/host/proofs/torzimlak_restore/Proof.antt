@@ -20,11 +20,11 @@ check-table-requires c κs = search needs
 
 -- src/lib.rt:140:9
 returns : tie.Need-returns
-returns c = host-unwoken-table _ _ _ _ _ _ (sym (c .before .check-table .ensures) ∙ not-true _ (c .if1 .taken))
+returns c = host-unwoken-table _ _ _ _ _ _ (sym (c .before .check-table .ensures) ∙ not-true _ (c .if1 .taken)) (c .before .before .before .slice-known .given) (c .before .before .slice-known2 .given)
 
 -- src/lib.rt:143:9
 returns-2 : tie.Need-returns-2
-returns-2 c = host-unwoken-words _ _ _ _ _ _ (sym (c .before .before .check-table .ensures) ∙ not-false _ (c .before .if1 .left)) (c .if2 .taken)
+returns-2 c = host-unwoken-words _ _ _ _ _ _ (sym (c .before .before .check-table .ensures) ∙ not-false _ (c .before .if1 .left)) (c .if2 .taken) (c .before .before .before .before .slice-known .given) (c .before .before .before .slice-known2 .given)
 
 -- src/lib.rt:145:9
 restore-checked-requires : tie.Need-restore-checked-requires
@@ -50,7 +50,7 @@ same-length-2 c = search needs
 returns-3 : tie.Need-returns-3
 returns-3 c =
     host-woken _ _ _ _ _ _ (sym (c .before .before .before .before .before .before .before .before .before .before .before .before .before .check-table .ensures) ∙ not-false _ (c .before .before .before .before .before .before .before .before .before .before .before .before .if1 .left))
-    _ _ _ (c .before .before .before .before .before .before .before .before .before .before .before .if2 .left) (c .before .before .before .before .before .before .before .before .before .restore-checked .ensures) (c .before .before .before .before .before .before .number-of .ensures) _ (c .before .before .before .before .before .if3 .taken) (c .before .before .put-state .ensures)
+    _ _ _ (c .before .before .before .before .before .before .before .before .before .before .before .if2 .left) (c .before .before .before .before .before .before .before .before .before .restore-checked .ensures) (c .before .before .before .before .before .before .number-of .ensures) _ (c .before .before .before .before .before .if3 .taken) (c .before .before .put-state .ensures) (c .before .before .before .before .before .before .before .slice-known3 .given) (c .slice-known4 .given)
 
 -- src/lib.rt:128:1
 same-length-3 : tie.Need-same-length-3
@@ -60,7 +60,7 @@ same-length-3 c = search needs
 returns-4 : tie.Need-returns-4
 returns-4 c =
     host-unwoken _ _ _ _ _ _ (sym (c .before .before .before .before .before .before .before .before .check-table .ensures) ∙ not-false _ (c .before .before .before .before .before .before .before .if1 .left))
-    _ _ _ (c .before .before .before .before .before .before .if2 .left) (c .before .before .before .before .restore-checked .ensures) (c .before .number-of .ensures) (c .if3 .left)
+    _ _ _ (c .before .before .before .before .before .before .if2 .left) (c .before .before .before .before .restore-checked .ensures) (c .before .number-of .ensures) (c .if3 .left) (c .before .before .slice-known3 .given) (c .before .before .before .before .before .before .before .before .before .slice-known2 .given)
 
 pub torzimlak-restore-spec : {M : Type 1} → statement M
 torzimlak-restore-spec =

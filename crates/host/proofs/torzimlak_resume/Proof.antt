@@ -1,6 +1,6 @@
 use mathlib.Core.Path.{sym, _∙_}
 use borrow.Author.Tests.{not-true, not-false}
-use Rattle.host.proofs.Calls.{host-unresumed, host-resumed, resumed-put, resumed-kept}
+use Rattle.host.proofs.Calls.{host-unresumed, host-went-on, host-declined}
 use Rattle.lent.proofs.Links.{lawful-enough}
 use borrow.Author.Needs.{needs}
 use Rattle.host.proofs.torzimlak_resume.Statement.{statement}
@@ -28,7 +28,7 @@ same-length c = search needs
 
 -- src/lib.rt:157:9
 returns : tie.Need-returns
-returns c = rw (c .unread .ensures) (host-unresumed _ _ _ _ (sym (c .before .before .words-ok .ensures) ∙ not-true _ (c .before .if1 .taken)))
+returns c = rw (c .unread .ensures) (host-unresumed _ _ _ _ (sym (c .before .before .words-ok .ensures) ∙ not-true _ (c .before .if1 .taken)) (c .before .before .before .before .before .shared-slice-known2 .given) (c .before .before .before .before .slice-known .given))
 
 -- src/lib.rt:159:9
 state-of-requires : tie.Need-state-of-requires
@@ -52,7 +52,7 @@ same-length-2 c = search needs
 
 -- src/lib.rt:147:1
 returns-2 : tie.Need-returns-2
-returns-2 c = host-resumed _ _ _ _ _ _ _ (sym (c .before .before .before .before .before .before .before .before .before .before .before .words-ok .ensures) ∙ not-false _ (c .before .before .before .before .before .before .before .before .before .before .if1 .left)) (c .before .before .before .before .before .before .before .before .state-of .ensures) (c .before .before .before .before .before .before .before .resume .ensures) _ _ (c .before .before .before .before .before .before .number .ensures) (resumed-put _ _ _ _ _ _ _ (sym (c .before .before .before .before .before .before .before .before .before .before .before .words-ok .ensures) ∙ not-false _ (c .before .before .before .before .before .before .before .before .before .before .if1 .left)) (c .before .before .before .before .before .before .before .before .state-of .ensures) (c .before .before .before .before .before .before .before .resume .ensures) _ _ (c .before .before .before .before .before .before .number .ensures) (c .before .before .before .before .before .if2 .taken) (c .before .before .put-state .ensures))
+returns-2 c = host-went-on _ _ _ _ _ _ _ (sym (c .before .before .before .before .before .before .before .before .before .before .before .words-ok .ensures) ∙ not-false _ (c .before .before .before .before .before .before .before .before .before .before .if1 .left)) (c .before .before .before .before .before .before .before .before .state-of .ensures) (c .before .before .before .before .before .before .before .resume .ensures) _ _ (c .before .before .before .before .before .before .number .ensures) (c .before .before .before .before .before .if2 .taken) (c .before .before .put-state .ensures) (c .before .before .before .before .before .before .before .before .before .before .before .before .before .before .shared-slice-known2 .given) (c .slice-known2 .given)
 
 -- src/lib.rt:147:1
 same-length-3 : tie.Need-same-length-3
@@ -60,7 +60,7 @@ same-length-3 c = search needs
 
 -- src/lib.rt:147:1
 returns-3 : tie.Need-returns-3
-returns-3 c = host-resumed _ _ _ _ _ _ _ (sym (c .before .before .before .before .before .before .words-ok .ensures) ∙ not-false _ (c .before .before .before .before .before .if1 .left)) (c .before .before .before .state-of .ensures) (c .before .before .resume .ensures) _ _ (c .before .number .ensures) (resumed-kept _ _ _ _ _ _ _ (sym (c .before .before .before .before .before .before .words-ok .ensures) ∙ not-false _ (c .before .before .before .before .before .if1 .left)) (c .before .before .before .state-of .ensures) (c .before .before .resume .ensures) _ (c .before .number .ensures) (c .if2 .left))
+returns-3 c = host-declined _ _ _ _ _ _ _ (sym (c .before .before .before .before .before .before .words-ok .ensures) ∙ not-false _ (c .before .before .before .before .before .if1 .left)) (c .before .before .before .state-of .ensures) (c .before .before .resume .ensures) _ (c .before .number .ensures) (c .if2 .left) (c .before .before .before .before .before .before .before .before .before .shared-slice-known2 .given) (c .before .before .before .before .before .before .before .before .slice-known .given)
 
 pub torzimlak-resume-spec : {M : Type 1} → statement M
 torzimlak-resume-spec =

@@ -1,6 +1,6 @@
 use mathlib.Core.Path.{sym, _∙_}
 use borrow.Author.Tests.{not-true, not-false}
-use Rattle.host.proofs.Calls.{host-unrun, host-ran, ran-put, ran-kept}
+use Rattle.host.proofs.Calls.{host-unrun, host-ended, host-refused}
 use Rattle.lent.proofs.Links.{lawful-enough}
 use borrow.Author.Needs.{needs}
 use Rattle.host.proofs.torzimlak_run.Statement.{statement}
@@ -36,7 +36,7 @@ same-length c = search needs
 
 -- src/lib.rt:130:9
 returns : tie.Need-returns
-returns c = rw (c .unread .ensures) (host-unrun _ _ _ _ (sym (c .before .before .words-ok .ensures) ∙ not-true _ (c .before .if1 .taken)))
+returns c = rw (c .unread .ensures) (host-unrun _ _ _ _ (sym (c .before .before .words-ok .ensures) ∙ not-true _ (c .before .if1 .taken)) (c .before .before .before .before .before .slice-known .given) (c .before .before .before .before .slice-known2 .given))
 
 -- src/lib.rt:132:9
 state-of-requires : tie.Need-state-of-requires
@@ -80,7 +80,7 @@ same-length-3 c = search needs
 
 -- src/lib.rt:120:1
 returns-2 : tie.Need-returns-2
-returns-2 c = host-ran _ _ _ _ _ _ _ _ _ (sym (c .before .before .before .before .before .before .before .before .before .before .before .before .before .before .words-ok .ensures) ∙ not-false _ (c .before .before .before .before .before .before .before .before .before .before .before .before .before .if1 .left)) (c .before .before .before .before .before .before .before .before .before .before .before .state-of .ensures) (c .before .before .before .before .before .before .before .before .before .run .ensures) _ _ (c .before .before .before .before .before .before .number .ensures) (ran-put _ _ _ _ _ _ _ _ _ (sym (c .before .before .before .before .before .before .before .before .before .before .before .before .before .before .words-ok .ensures) ∙ not-false _ (c .before .before .before .before .before .before .before .before .before .before .before .before .before .if1 .left)) (c .before .before .before .before .before .before .before .before .before .before .before .state-of .ensures) (c .before .before .before .before .before .before .before .before .before .run .ensures) _ _ (c .before .before .before .before .before .before .number .ensures) (c .before .before .before .before .before .if2 .taken) (c .before .before .put-state .ensures))
+returns-2 c = host-ended _ _ _ _ _ _ _ _ _ (sym (c .before .before .before .before .before .before .before .before .before .before .before .before .before .before .words-ok .ensures) ∙ not-false _ (c .before .before .before .before .before .before .before .before .before .before .before .before .before .if1 .left)) (c .before .before .before .before .before .before .before .before .before .before .before .state-of .ensures) (c .before .before .before .before .before .before .before .before .before .run .ensures) _ _ (c .before .before .before .before .before .before .number .ensures) (c .before .before .before .before .before .if2 .taken) (c .before .before .put-state .ensures) (c .before .before .before .before .before .before .before .slice-known3 .given) (c .slice-known4 .given)
 
 -- src/lib.rt:120:1
 same-length-4 : tie.Need-same-length-4
@@ -92,7 +92,7 @@ same-length-5 c = search needs
 
 -- src/lib.rt:120:1
 returns-3 : tie.Need-returns-3
-returns-3 c = host-ran _ _ _ _ _ _ _ _ _ (sym (c .before .before .before .before .before .before .before .before .before .words-ok .ensures) ∙ not-false _ (c .before .before .before .before .before .before .before .before .if1 .left)) (c .before .before .before .before .before .before .state-of .ensures) (c .before .before .before .before .run .ensures) _ _ (c .before .number .ensures) (ran-kept _ _ _ _ _ _ _ _ _ (sym (c .before .before .before .before .before .before .before .before .before .words-ok .ensures) ∙ not-false _ (c .before .before .before .before .before .before .before .before .if1 .left)) (c .before .before .before .before .before .before .state-of .ensures) (c .before .before .before .before .run .ensures) _ (c .before .number .ensures) (c .if2 .left))
+returns-3 c = host-refused _ _ _ _ _ _ _ _ _ (sym (c .before .before .before .before .before .before .before .before .before .words-ok .ensures) ∙ not-false _ (c .before .before .before .before .before .before .before .before .if1 .left)) (c .before .before .before .before .before .before .state-of .ensures) (c .before .before .before .before .run .ensures) _ (c .before .number .ensures) (c .if2 .left) (c .before .before .slice-known3 .given) (c .before .before .before .before .before .before .before .before .before .before .before .slice-known2 .given)
 
 pub torzimlak-run-spec : {M : Type 1} → statement M
 torzimlak-run-spec =

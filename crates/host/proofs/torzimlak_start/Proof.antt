@@ -1,5 +1,5 @@
 use mathlib.Core.Path.{sym, _∙_}
-use Rattle.host.proofs.Calls.{host-unstarted, host-started, started-put, started-kept}
+use Rattle.host.proofs.Calls.{host-unstarted, host-begun, host-unbegun}
 use borrow.Author.Needs.{needs}
 use Rattle.host.proofs.torzimlak_start.Statement.{statement}
 use Rattle.host.proofs.torzimlak_start.Tie as tie
@@ -16,7 +16,7 @@ unread-requires c κs = search needs
 
 -- src/lib.rt:106:9
 returns : tie.Need-returns
-returns c = rw (c .unread .ensures) (host-unstarted _ _ _ _ _ (c .before .if1 .taken))
+returns c = rw (c .unread .ensures) (host-unstarted _ _ _ _ _ (c .before .if1 .taken) (c .before .before .before .before .slice-known .given) (c .before .before .slice-known2 .given))
 
 -- src/lib.rt:108:9
 start-requires : tie.Need-start-requires
@@ -40,7 +40,7 @@ same-length-2 c = search needs
 
 -- src/lib.rt:95:1
 returns-2 : tie.Need-returns-2
-returns-2 c = host-started _ _ _ _ _ _ _ _ (c .before .before .before .before .before .before .before .before .before .before .before .if1 .left) (c .before .before .before .before .before .before .before .before .before .start .ensures) _ _ (c .before .before .before .before .before .before .number .ensures) (started-put _ _ _ _ _ _ _ _ (c .before .before .before .before .before .before .before .before .before .before .before .if1 .left) (c .before .before .before .before .before .before .before .before .before .start .ensures) _ _ (c .before .before .before .before .before .before .number .ensures) (c .before .before .before .before .before .if2 .taken) (c .before .before .put-state .ensures))
+returns-2 c = host-begun _ _ _ _ _ _ _ _ (c .before .before .before .before .before .before .before .before .before .before .before .if1 .left) (c .before .before .before .before .before .before .before .before .before .start .ensures) _ _ (c .before .before .before .before .before .before .number .ensures) (c .before .before .before .before .before .if2 .taken) (c .before .before .put-state .ensures) (c .before .before .before .before .before .before .before .slice-known3 .given) (c .slice-known4 .given)
 
 -- src/lib.rt:95:1
 same-length-3 : tie.Need-same-length-3
@@ -48,7 +48,7 @@ same-length-3 c = search needs
 
 -- src/lib.rt:95:1
 returns-3 : tie.Need-returns-3
-returns-3 c = host-started _ _ _ _ _ _ _ _ (c .before .before .before .before .before .before .if1 .left) (c .before .before .before .before .start .ensures) _ _ (c .before .number .ensures) (started-kept _ _ _ _ _ _ _ _ (c .before .before .before .before .before .before .if1 .left) (c .before .before .before .before .start .ensures) _ (c .before .number .ensures) (c .if2 .left))
+returns-3 c = host-unbegun _ _ _ _ _ _ _ _ (c .before .before .before .before .before .before .if1 .left) (c .before .before .before .before .start .ensures) _ (c .before .number .ensures) (c .if2 .left) (c .before .before .slice-known3 .given) (c .before .before .before .before .before .before .before .slice-known2 .given)
 
 pub torzimlak-start-spec : {M : Type 1} → statement M
 torzimlak-start-spec =

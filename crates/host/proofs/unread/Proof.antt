@@ -1,6 +1,6 @@
 use mathlib.Core.Path.{sym, _∙_}
 use Rattle.base.specs.Test.{if}
-use Rattle.host.specs.Running.{unreadNumber}
+use Rattle.host_claims.specs.Running.{unreadNumber}
 use borrow.Author.Needs.{needs}
 use Rattle.host.proofs.unread.Statement.{statement}
 use Rattle.host.proofs.unread.Tie as tie

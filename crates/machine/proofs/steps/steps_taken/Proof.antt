@@ -2,7 +2,7 @@
 -- Assumes nothing.
 use borrow.Author.Tests.{eq-eqb, ne-eqb}
 use Rattle.base.specs.Test.{if}
-use Rattle.machine.specs.Halting.{counted}
+use Rattle.machine.specs.Halting.{stepsTakenOf}
 use borrow.Author.Needs.{needs}
 use Rattle.machine.proofs.steps.steps_taken.Statement.{statement}
 use Rattle.machine.proofs.steps.steps_taken.Tie as tie
@@ -14,14 +14,14 @@ add-result : tie.Need-add-result
 add-result c = search needs
 
 returns : tie.Need-returns
-unfolding counted if
+unfolding stepsTakenOf if
 returns c = rw (eq-eqb _ _ (c .if1 .taken))
 
 sub-result-2 : tie.Need-sub-result-2
 sub-result-2 c = search needs
 
 returns-2 : tie.Need-returns-2
-unfolding counted if
+unfolding stepsTakenOf if
 returns-2 c = rw (ne-eqb _ _ (c .if1 .left))
 
 pub steps-taken-spec : {M : Type 1} → statement M

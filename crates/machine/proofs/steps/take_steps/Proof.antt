@@ -5,16 +5,15 @@ use Prim.Native.Nat.{_-_, _≤_}
 use mathlib.Core.Path.{_≡_, refl, _∙_}
 use native.Mathlib.Omega.{arith}
 use lib.ListN.{length}
-use Rattle.rules.specs.Run.{steps}
-use Rattle.rules.proofs.Loops.{addSteps}
-use Rattle.exec_core.specs.Seen.{Running, linksIn, stateBy}
+use Rattle.rules.specs.Run.{addSteps, steps}
+use Rattle.exec_core.specs.Seen.{Running, openLinks, stateBy}
 use Rattle.dispatch.proofs.After.{goes-on}
 use Rattle.machine.proofs.Looping.{halts-below, halts-used, run-first, run-next}
 use Rattle.machine.proofs.steps.take_steps.Statement.{statement}
 use Rattle.machine.proofs.steps.take_steps.Tie as tie
 
 abbrev Inv-loop : tie.InvT-loop
-Inv-loop t from m₀ z₀ links₀ c budget b₀ left₀ m z links b left = (steps t budget (stateBy from z₀ m₀ (linksIn links₀)) ≡ addSteps (budget - left) (steps t left (stateBy b z m (linksIn links)))) × Running t b z m links c × (left ≤ budget) × (length m ≡ length m₀) × (length links ≡ length links₀)
+Inv-loop t from m₀ z₀ links₀ c budget b₀ left₀ m z links b left = (steps t budget (stateBy from z₀ m₀ (openLinks links₀)) ≡ addSteps (budget - left) (steps t left (stateBy b z m (openLinks links)))) × Running t b z m links c × (left ≤ budget) × (length m ≡ length m₀) × (length links ≡ length links₀)
 
 abbrev μ-loop : tie.MeasureT-loop
 μ-loop t from m₀ z₀ links₀ c budget b₀ left₀ m z links b left = left

@@ -9,18 +9,16 @@ use mathlib.Core.List.{List, _++_}
 use lib.Dec.{ltb}
 use lib.ListN.{length, drop}
 use Rattle.base.specs.Test.{if}
-use Rattle.rules.specs.Number.{refusalNumber, outcomeNumber, badTable, badState}
+use Rattle.rules.specs.Number.{refusalNumber, outcomeNumber, badTable, badState, upper}
 use Rattle.rules.specs.Check.{tableOk}
 use Rattle.rules.specs.State as Rules
 use Rattle.rules.specs.Run as Run
-use Rattle.rules.specs.Run.{Call, answer, ended, left, nowhere, refused}
+use Rattle.rules.specs.Run.{Call, answer, ended, left, nowhere, refused, stepsIn}
 use Rattle.rules.specs.Start as Start
-use Rattle.rules.specs.Start.{begun, startOf, unbegun}
+use Rattle.rules.specs.Start.{begun, memoryBegun, startOf, unbegun}
+use Rattle.rules.specs.Alike.{AreWords}
 use Rattle.states.specs.Views.{codeOf}
-use Rattle.starting.specs.Answers.{memoryAfter}
-use Rattle.resuming.specs.Answers.{stepsIn}
 use Rattle.lent.specs.Lent.{lawful, stateFrom, wordsFrom}
-use Rattle.host_numbers.specs.Numbers.{upper}
 
 -- 30, or 31 where the table passes
 unfoldable pub unreadNumber : List ℕ → ℕ
@@ -43,16 +41,23 @@ wordsLeft (refused e) ws = ws
 wordsLeft (ended o k s) ws = wordsFrom (codeOf s) ++ drop 267 ws
 wordsLeft nowhere ws = ws
 
--- run's promise to a host: number and steps, the lent memory, the lent state's words
+-- run's promise to a host: number and steps, the lent memory, the lent state's words, that these are the state that the rules leave, and that
+-- all are words of 32 bits
 pub record HostRuns (t ws mem : List ℕ) (c : Call) (r : ℕ) (after words : List ℕ) : Type 0 where
   pub number : r ≡ upper (callNumber (callWords t ws mem c)) + stepsIn (callWords t ws mem c)
   pub memory : after ≡ left (stateFrom ws mem) (callWords t ws mem c) .core .mem
   pub state : words ≡ wordsLeft (callWords t ws mem c) ws
+  pub machine : stateFrom words after ≡ left (stateFrom ws mem) (callWords t ws mem c)
+  pub memory-words : AreWords after
+  pub state-words : AreWords words
 
--- resume's promise to a host: the number, the lent state's words
+-- resume's promise to a host: the number, the lent state's words, and the same of these; the lent memory is only read
 pub record HostResumes (t ws mem : List ℕ) (c : Call) (r : ℕ) (words : List ℕ) : Type 0 where
   pub number : r ≡ callNumber (callWords t ws mem c)
   pub state : words ≡ wordsLeft (callWords t ws mem c) ws
+  pub machine : stateFrom words mem ≡ left (stateFrom ws mem) (callWords t ws mem c)
+  pub memory-words : AreWords mem
+  pub state-words : AreWords words
 
 -- 30, then 31 for too little room for a state, then what the rules start; of the lent state only its length counts
 unfoldable pub startWords : List ℕ → List ℕ → List ℕ → ℕ → List ℕ → Start.Started
@@ -67,8 +72,11 @@ abbrev pub wordsBegun : Start.Started → List ℕ → List ℕ
 wordsBegun (begun s) ws = wordsFrom (codeOf s) ++ drop 267 ws
 wordsBegun (unbegun e) ws = ws
 
--- start's promise to a host: the number, the lent memory, the lent state's words
+-- start's promise to a host: the number, the lent memory, the lent state's words, that these are the started machine, and that all are words
 pub record HostStarts (t lent fs : List ℕ) (x : ℕ) (ws : List ℕ) (r : ℕ) (after words : List ℕ) : Type 0 where
   pub number : r ≡ startNumber (startWords t lent fs x ws)
-  pub memory : after ≡ memoryAfter (startWords t lent fs x ws) lent
+  pub memory : after ≡ memoryBegun (startWords t lent fs x ws) lent
   pub state : words ≡ wordsBegun (startWords t lent fs x ws) ws
+  pub machine : (s : Rules.State) → startWords t lent fs x ws ≡ begun s → stateFrom words after ≡ s
+  pub memory-words : AreWords after
+  pub state-words : AreWords words

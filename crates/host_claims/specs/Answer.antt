@@ -5,14 +5,10 @@ use Prim.Native.Nat.{ℕ}
 use mathlib.Core.Bool.{not}
 use mathlib.Core.List.{List}
 use Rattle.base.specs.Test.{if}
-use Rattle.rules.specs.Number.{Verdict, granted, refusedBy, refusalNumber, badTable, badState}
+use Rattle.rules.specs.Number.{Verdict, refusedBy, refusalNumber, verdictNumber, badTable, badState}
 use Rattle.rules.specs.Check.{tableOk}
-use Rattle.admission.specs.Admit.{admitted}
+use Rattle.rules.specs.Run.{admitted}
 use Rattle.lent.specs.Lent.{lawful, stateFrom}
-
-abbrev pub verdictNumber : Verdict → ℕ
-verdictNumber granted = 0
-verdictNumber (refusedBy e) = refusalNumber e
 
 -- the table alone
 unfoldable pub tableNumber : List ℕ → ℕ

@@ -9,15 +9,14 @@ use mathlib.Core.List.{List, _++_}
 use lib.Dec.{ltb}
 use lib.ListN.{length, drop}
 use Rattle.base.specs.Test.{if}
-use Rattle.rules.specs.Number.{refusalNumber, badTable, badState}
+use Rattle.rules.specs.Number.{refusalNumber, badTable, badState, upper}
 use Rattle.rules.specs.Check.{tableOk}
 use Rattle.rules.specs.Snapshot as Snapshot
 use Rattle.rules.specs.State as Rules
-use Rattle.rules.specs.Snapshot.{fileOf, filled, restoreOf, unwoken, unwritten, woken, writeOf}
-use Rattle.snapshot.specs.Answers.{memoryAfter, roomAfter}
+use Rattle.rules.specs.Snapshot.{fileOf, filled, memoryWoken, restoreOf, roomAfter, unwoken, unwritten, woken, writeOf}
+use Rattle.rules.specs.Alike.{AreWords}
 use Rattle.states.specs.Views.{codeOf}
 use Rattle.lent.specs.Lent.{lawful, stateFrom, wordsFrom}
-use Rattle.host_numbers.specs.Numbers.{upper}
 
 -- 30, then 31 for words that are no state, then what the rules write of the state that the words are
 unfoldable pub writeWords : List ℕ → List ℕ → List ℕ → ℕ → List ℕ → Snapshot.Written
@@ -49,9 +48,11 @@ abbrev pub wordsAfter : Snapshot.Restored → List ℕ → List ℕ
 wordsAfter (woken s) ws = wordsFrom (codeOf s) ++ drop 267 ws
 wordsAfter (unwoken e) ws = ws
 
--- restore's promise to a host: the number, the lent memory, the lent state's words, and that these are the woken machine
+-- restore's promise to a host: the number, the lent memory, the lent state's words, that these are the woken machine, and that all are words
 pub record HostRestores (t file : List ℕ) (build : ℕ) (fs lent ws : List ℕ) (r : ℕ) (after words : List ℕ) : Type 0 where
   pub number : r ≡ wokenNumber (restoreWords t file build fs lent ws)
-  pub memory : after ≡ memoryAfter (restoreWords t file build fs lent ws) lent
+  pub memory : after ≡ memoryWoken (restoreWords t file build fs lent ws) lent
   pub state : words ≡ wordsAfter (restoreWords t file build fs lent ws) ws
   pub machine : (s : Rules.State) → restoreWords t file build fs lent ws ≡ woken s → stateFrom words after ≡ s
+  pub memory-words : AreWords after
+  pub state-words : AreWords words

@@ -1,0 +1,5 @@
+pub mod Answer
+pub mod Running
+pub mod Freezing
+pub mod Calls
+pub mod RoundTrip
