@@ -1,14 +1,24 @@
 /*
  * Torzimlak: a proved virtual machine for MINIMAL.
  *
- * Link with libhost.a, which `rt staticlib host` builds into target/staticlib.
+ * Link with libhost.a, which `rt staticlib host` builds into target/staticlib, for x86-64. It needs memcpy and memset of the C library,
+ * and nothing else.
  *
  * Every function may be given any words and bytes; it ends, touches nothing but what it is lent, and a refused call changes no lent word
- * or byte. A slice is a pointer and a length; the pointer must be valid for that length also where the length is 0, and what is lent for
- * writing must not overlap anything else that is lent to the same call.
+ * or byte. What is lent:
+ *   - A slice is a pointer and a length. The pointer is aligned as its type is and valid for that length; with length 0 it may be NULL.
+ *   - What is lent for writing must not overlap anything else that is lent to the same call. What is lent for reading may overlap.
+ *   - No pointer is kept after a call.
  *
- * Answers are the numbers of the papers: 0 done, 1 to 10 and 30 to 45 refusals, 20 to 29 endings of a run. Where there is a value beside
- * the number, the answer is a uint64_t: the number is its upper half, the value its lower half.
+ * There are no globals and no locks, so every function is reentrant: threads may call at the same time, so long as what one call writes
+ * is lent to no other.
+ *
+ * Nothing is allocated: a call works on the stack, torzimlak_assemble on about 1.1 MB of it, so that its thread should have 2 MB, and each
+ * other function on less than 32 KB (TORZIMLAK_ASSEMBLE_STACK and TORZIMLAK_STACK below). Frames over a page are taken page by page,
+ * downwards, so that a stack that is too short faults in its guard page, if it has one, before anything behind that is written.
+ *
+ * Answers are the numbers of the papers: 0 done, 1 to 10, 30 to 33 and 40 to 45 refusals, 20 to 29 endings of a run. Where there is a
+ * value beside the number, the answer is a uint64_t: the number is its upper half, the value its lower half, 0 unless it is said.
  */
 #ifndef TORZIMLAK_H
 #define TORZIMLAK_H
@@ -24,7 +34,12 @@ extern "C" {
 #define TORZIMLAK_NUMBER(answer) ((uint32_t)((answer) >> 32))
 #define TORZIMLAK_VALUE(answer) ((uint32_t)(answer))
 
-/* The words of a state. Links are the places of open calls' JSRs, oldest first; those from the count on are not looked at. */
+/*
+ * The words of a state. Links are the places of open calls' JSRs, oldest first. Those from the count on are not looked at, and a start,
+ * run, resume or restore that is not refused writes them as 0. More words than these may be lent: the words behind are neither looked at
+ * nor changed. Fewer are no state (31).
+ * Between calls a host may write memory, the six registers and IA as it likes. What else it writes is judged by the state check.
+ */
 enum {
     TORZIMLAK_XL = 0,
     TORZIMLAK_XR = 1,
@@ -41,18 +56,31 @@ enum {
     TORZIMLAK_STATE_WORDS = 267
 };
 
-/* Limits. A table of TORZIMLAK_TABLE_WORDS words holds any program. */
+/*
+ * Limits. A table of TORZIMLAK_TABLE_WORDS words holds any program, a file of TORZIMLAK_FILE_BYTES bytes any machine: memory, 256 links,
+ * 32 fresh addresses and a trailer of 16 words.
+ */
 enum {
     TORZIMLAK_MIN_MEMORY = 256,
     TORZIMLAK_MAX_MEMORY = 8192,
     TORZIMLAK_MAX_BUDGET = 1000000,
-    TORZIMLAK_TABLE_WORDS = 16872
+    TORZIMLAK_TABLE_WORDS = 16872,
+    TORZIMLAK_FILE_BYTES = 33984 /* 4 * (8192 + 256 + 32 + 16) */
+};
+
+/*
+ * Bytes of stack that are enough for a call of torzimlak_assemble, and of each other function. The code itself takes at most 1,075,816
+ * bytes, torzimlak_run 16,376, torzimlak_resume 16,200, each other function under 14,300; the rest is for memcpy and memset, of which a
+ * loader that binds them at their first call takes some thousands.
+ */
+enum {
+    TORZIMLAK_ASSEMBLE_STACK = 1114112,
+    TORZIMLAK_STACK = 32768
 };
 
 /*
  * Cards become a table. Number 0: the value is the table's length, and room past it stays as it was. Numbers 1 to 10: refused; the value
  * is the line, 0 where there is none.
- * It works on the stack alone, of which it needs about 1.1 MB: a thread that calls it should have 2 MB.
  */
 uint64_t torzimlak_assemble(const uint8_t *cards, size_t bytes, uint32_t *table, size_t table_words);
 
@@ -60,43 +88,46 @@ uint64_t torzimlak_assemble(const uint8_t *cards, size_t bytes, uint32_t *table,
 uint32_t torzimlak_check_table(const uint32_t *table, size_t table_words);
 
 /*
- * 0: the state may be run on the table with memory of that many words. 30: the table. 31: the state, or fewer words than a state has, or
- * a flag or waiting word that is neither 0 nor 1.
+ * 0: the state may be run on the table with memory of that many words. In this order, 30: the table; 31: fewer words than a state has, a
+ * flag or waiting word that is neither 0 nor 1, the length of memory, or the state.
  */
 uint32_t torzimlak_check_state(const uint32_t *table, size_t table_words, size_t memory_words, const uint32_t *state, size_t state_words);
 
 /*
  * A machine in lent memory with the host's fresh words, its argument in WA. 0: started; the program's words are set, the rest of memory
- * is as it was lent. 30: the table. 10: memory's length. 43: the count of fresh words. 31: fewer words are lent than a state has.
+ * is as it was lent. In this order, 30: the table; 31: fewer words are lent than a state has; 10: memory's length; 43: the count of fresh
+ * words. What the lent state held is not looked at.
  */
 uint32_t torzimlak_start(const uint32_t *table, size_t table_words, uint32_t *memory, size_t memory_words, const uint32_t *fresh,
                          size_t fresh_words, uint32_t argument, uint32_t *state, size_t state_words);
 
 /*
- * At most `budget` steps. Numbers 20 to 29: the ending; the value is the count of steps. 30: the table. 31: the state. 32: the budget is
- * over TORZIMLAK_MAX_BUDGET.
+ * At most `budget` steps. Numbers 20 to 29: the ending; the value is the count of steps. In this order, 30: the table; 31: the state, as
+ * torzimlak_check_state judges it; 32: the budget is over TORZIMLAK_MAX_BUDGET.
  */
 uint64_t torzimlak_run(const uint32_t *table, size_t table_words, uint32_t *memory, size_t memory_words, uint32_t *state,
                        size_t state_words, uint32_t budget);
 
 /*
  * The host's answer to the call that the machine waits at: an exit, or 0 for no number. 0: the machine goes on at the next run. 26: the
- * exit's PPM has no label; the machine still waits. 30: the table. 31: the state. 33: not waiting, or an exit above the declared count.
+ * exit's PPM has no label; the machine still waits. In this order, 30: the table; 31: the state, as torzimlak_check_state judges it; 33:
+ * not waiting, or an exit above the declared count.
  */
 uint32_t torzimlak_resume(const uint32_t *table, size_t table_words, const uint32_t *memory, size_t memory_words, uint32_t *state,
                           size_t state_words, uint32_t exit);
 
 /*
- * The machine as a file at the front of the room; fresh words are in it as 0. Number 0: the value is the file's length L, and room past
- * it stays. 30: the table. 31: the state. 45: the room is under L.
+ * The machine as a file at the front of the room; fresh words are in it as 0. Number 0: the value is the file's length L, at most
+ * TORZIMLAK_FILE_BYTES, and room past it stays. In this order, 30: the table; 31: the state, as torzimlak_check_state judges it; 45: the
+ * room is under L.
  */
 uint64_t torzimlak_write(const uint32_t *table, size_t table_words, const uint32_t *memory, size_t memory_words, const uint32_t *state,
                          size_t state_words, uint32_t build, uint8_t *file, size_t bytes);
 
 /*
- * The machine at the end of the file, woken in the lent memory and state with the host's fresh words. 0: woken. 30: the table. 31: fewer
- * words are lent than a state has. 40: the trailer. 41: another program or build. 42: the frozen state. 43: the count of fresh words.
- * 44: the length of memory.
+ * The machine at the end of the file, woken in the lent memory and state with the host's fresh words. 0: woken. In this order, 30: the
+ * table; 31: fewer words are lent than a state has; 40: the trailer; 41: another program or build; 42: the frozen state; 43: the count of
+ * fresh words; 44: the length of memory. What the lent state held is not looked at.
  */
 uint32_t torzimlak_restore(const uint32_t *table, size_t table_words, const uint8_t *file, size_t bytes, uint32_t build,
                            const uint32_t *fresh, size_t fresh_words, uint32_t *memory, size_t memory_words, uint32_t *state,

@@ -1,6 +1,7 @@
 #!/bin/sh
 # Tries every command of `torzimlak`, and every way in which it can fail: what it writes to standard output and to standard error, its exit status, and that no
-# file is left half-written. Needs nothing but the built command. The last line is 'command: N passed, 0 failed'.
+# file is left half-written. Needs nothing but the built command. What cannot be tried here is named by a line of its own. The last line is
+# 'command: N passed, 0 failed'.
 CDPATH=
 top=$(cd "$(dirname "$0")/.." && pwd -P) || exit 1
 work=$(mktemp -d) || exit 1
@@ -24,6 +25,11 @@ pass() {
 fail() {
     failed=$((failed + 1))
     printf 'FAILED: %s\n' "$1"
+}
+
+# skip WHY WHAT: what is not tried
+skip() {
+    printf 'command: skipped, for %s: %s\n' "$1" "$2"
 }
 
 # same WHAT GOT WANTED
@@ -154,6 +160,8 @@ if [ "$(id -u)" -ne 0 ]; then
     cp greeting.min ../secret.min
     chmod 000 ../secret.min
     try 1 '' '../secret.min: Permission denied' "$torzimlak" assemble ../secret.min ../none
+else
+    skip 'this is root, who may read and write all' 'a folder, a table and cards without permission'
 fi
 same 'the folder stays empty' "$(ls -A ../folder)" ''
 limited() {
@@ -360,6 +368,8 @@ cp "$torzimlak" '../a b/c/torzimlak'
 away=$(cd '../a b/c' && pwd -P)
 if ! PATH=/usr/bin:/bin command -v rt > /dev/null; then
     try 1 '' 'torzimlak: the command is not built yet, and rt, the Rattle toolchain that builds it, is not in PATH' env PATH=/usr/bin:/bin "$away/torzimlak" help
+else
+    skip 'rt is in /usr/bin or /bin' 'a command that is not built, and no rt to build it'
 fi
 mkdir "$away/target" && mkdir "$away/target/torzimlak.log"
 printf '#!/bin/sh\nexit 1\n' > ../bin/rt

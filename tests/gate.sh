@@ -1,6 +1,6 @@
 #!/bin/sh
-# Tries the gate (.ci/run), tools/gate-times, tools/order, tools/progress and the first build of ./torzimlak on copies in a folder of its own, with programs of its own in place of
-# rt, cargo and tests/host. Proves nothing and takes some seconds. The last line is 'gate.sh: N passed, 0 failed'.
+# Tries the gate (.ci/run), tools/gate-times, tools/order, tools/progress, tests/valgrind and the first build of ./torzimlak on copies in a folder of its own, with programs of its own in
+# place of rt, cargo, cc, valgrind and tests/host. Proves nothing and takes some seconds. The last line is 'gate.sh: N passed, 0 failed'.
 CDPATH=
 top=$(cd "$(dirname "$0")/.." && pwd -P) || exit 1
 work=$(mktemp -d) || exit 1
@@ -208,7 +208,7 @@ program ../bin/rt << 'END'
 mkdir -p target/bin
 echo half > target/bin/tool
 chmod +x target/bin/tool
-(sleep 5; echo > ../goes-on) &
+(sleep 5 && echo > ../goes-on) &
 echo > ../begun
 wait
 END
@@ -232,6 +232,85 @@ END
 try 'the next build' 0 "$begins
 the tool: run a b" ./torzimlak run a b
 try 'no build again' 0 'the tool: help' ./torzimlak help
+
+# Valgrind's run: what is missing or fails, and a library that is there already.
+cp "$top/tests/valgrind" tests || exit 1
+mkdir -p bindings/rust/tests bindings/c target/staticlib
+: > bindings/rust/tests/one.rs
+: > bindings/rust/tests/two.rs
+tools='cat basename dirname grep head ls mkdir rm sed sh tail'
+# without PROGRAM: valgrind's run over an old library, with nothing in PATH but plain tools and the programs of here, less that one
+without() {
+    rm -rf ../few
+    mkdir ../few
+    for tool in $tools rt cargo cc valgrind; do
+        [ "$tool" = "$1" ] && continue
+        if [ -e "../bin/$tool" ]; then ln -s "$work/bin/$tool" "../few/$tool"; else ln -s "$(command -v "$tool")" "../few/$tool"; fi
+    done
+    echo old > target/staticlib/libhost.a
+    PATH=$work/few tests/valgrind
+}
+program ../bin/rt << 'END'
+[ "$*" = 'staticlib host' ] || exit 9
+ls target/staticlib
+[ ! -e ../no-library ] || exit 0
+echo new > target/staticlib/libhost.a
+END
+program ../bin/cc << 'END'
+for word; do last=$word; done
+echo "a host over $(cat target/staticlib/libhost.a)" > "$last"
+END
+program ../bin/cargo << 'END'
+echo '   Compiling some crate v0.1.0 (/a path/deps/of-it)' >&2
+[ -z "$TORZIMLAK_LIBRARY" ] || exit 102
+[ ! -e ../no-crate ] || exit 101
+echo '  Executable unittests src/lib.rs (a path/deps/lib-0a)' >&2
+echo '  Executable tests/one.rs (a path/deps/one-1b)' >&2
+[ -e ../no-two ] || echo '  Executable tests/two.rs (a path/deps/two-2c)' >&2
+END
+program ../bin/valgrind << 'END'
+while [ "${1#-}" != "$1" ]; do shift; done
+echo "tried: $1, share $TORZIMLAK_SHARE"
+[ ! -e "../leaks-$(basename "$1")" ]
+END
+tried='tried: target/c/visitors, share 20
+tried: a path/deps/lib-0a, share 20
+tried: a path/deps/one-1b, share 20
+tried: a path/deps/two-2c, share 20'
+try 'valgrind: all is clean' 0 "$tried
+valgrind: clean" without nothing
+same 'valgrind: the library is the new one' "$(cat target/c/visitors)" 'a host over new'
+TORZIMLAK_LIBRARY=/none
+export TORZIMLAK_LIBRARY
+try 'valgrind: no other library is taken' 0 "$tried
+valgrind: clean" without nothing
+unset TORZIMLAK_LIBRARY
+for tool in rt cargo cc valgrind; do
+    try "valgrind: no $tool" 1 "valgrind: FAILED: $tool is not here" without $tool
+done
+: > ../no-library
+try 'valgrind: no library' 1 'valgrind: FAILED: rt left no target/staticlib/libhost.a' without nothing
+rm ../no-library
+: > ../no-crate
+try 'valgrind: cargo fails' 1 'tried: target/c/visitors, share 20
+   Compiling some crate v0.1.0 (/a path/deps/of-it)
+valgrind: FAILED: the tests are not built' without nothing
+rm ../no-crate
+: > ../no-two
+try 'valgrind: a program is missing' 1 'tried: target/c/visitors, share 20
+valgrind: FAILED: cargo built no program of bindings/rust/tests/two.rs' without nothing
+rm ../no-two
+: > ../leaks-one-1b
+try 'valgrind: a test is not clean' 1 "$(printf '%s\n' "$tried" | head -n 3)
+valgrind: FAILED: a path/deps/one-1b" without nothing
+rm ../leaks-one-1b
+program ../bin/rt << 'END'
+echo 'rt: host NOT PROVED'
+exit 1
+END
+try 'valgrind: the library is not built' 1 'rt: host NOT PROVED
+valgrind: FAILED: the library is not built' without nothing
+same 'valgrind: the old library is gone' "$(ls target/staticlib)" ''
 
 printf 'gate.sh: %d passed, %d failed\n' "$passed" "$failed"
 [ "$failed" -eq 0 ]

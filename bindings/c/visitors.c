@@ -13,7 +13,7 @@ static uint32_t table[TORZIMLAK_TABLE_WORDS];
 static size_t table_words;
 static uint32_t memory[MEMORY];
 static uint32_t state[TORZIMLAK_STATE_WORDS];
-static uint8_t file[4 * (MEMORY + 256 + 32) + 64];
+static uint8_t file[TORZIMLAK_FILE_BYTES];
 
 static int expect(const char *what, uint32_t got, uint32_t due) {
     if (got == due) {

@@ -47,7 +47,7 @@ fn text(measures: &mut Measures, name: &str, text: &[u8], goal: Goal) {
 fn warm(table: &Table) -> torzimlak::Snapshot {
     let mut machine = Machine::start(table, 256, &[1], 0).expect("a start");
     machine.run(1000).expect("a run");
-    machine.freeze(1).expect("a file")
+    machine.freeze(1)
 }
 
 /// The same of the plain machine.

@@ -1,13 +1,7 @@
 //! States as a host lends them: where each word stands.
 
+pub use torzimlak_plain::host::{COUNT, FLAG, LINKS, PLACE, STATE_WORDS as WORDS, WAITING};
 use torzimlak_plain::machine;
-
-pub const FLAG: usize = 7;
-pub const PLACE: usize = 8;
-pub const WAITING: usize = 9;
-pub const COUNT: usize = 10;
-pub const LINKS: usize = 11;
-pub const WORDS: usize = LINKS + 256;
 
 /// The state at a place with these links, its registers and the rest 0.
 pub fn state(place: u32, links: &[u32]) -> Vec<u32> {

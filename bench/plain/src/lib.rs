@@ -3,6 +3,7 @@
 
 pub mod assemble;
 pub mod check;
+pub mod host;
 pub mod machine;
 pub mod ops;
 pub mod snapshot;

@@ -27,7 +27,7 @@ fn main() -> Result<(), Box<dyn std::error::Error>> {
     let table = Table::assemble(&cards)?;
     let mut warm = Machine::start(&table, 256, &[0], 0)?;
     assert_eq!(warm.run(BUDGET)?.ending, Ending::Waiting);
-    let frozen = warm.freeze(BUILD)?;
+    let frozen = warm.freeze(BUILD);
     println!("frozen: {} bytes", frozen.bytes().len());
     let began = std::time::Instant::now();
     let mut tokens = HashSet::new();

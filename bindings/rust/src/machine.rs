@@ -1,64 +1,30 @@
-//! Machines at work, and frozen.
+//! Machines at work.
 
-use crate::sys::{self, STATE_WORDS};
-use crate::{Ending, Refusal, Table};
-
-/// The state beside its memory.
-#[derive(Clone, PartialEq, Eq, Debug)]
-pub struct State([u32; STATE_WORDS]);
-
-impl State {
-    /// XL, XR, XS, WA, WB, WC.
-    pub fn registers(&self) -> [u32; 6] {
-        self.0[..6].try_into().unwrap()
-    }
-
-    pub fn set_registers(&mut self, registers: [u32; 6]) {
-        self.0[..6].copy_from_slice(&registers);
-    }
-
-    pub fn ia(&self) -> i32 {
-        self.0[6] as i32
-    }
-
-    pub fn overflow(&self) -> bool {
-        self.0[7] == 1
-    }
-
-    /// The place of the next operation, or of the JSR that waits.
-    pub fn place(&self) -> u32 {
-        self.0[8]
-    }
-
-    pub fn waiting(&self) -> bool {
-        self.0[9] == 1
-    }
-
-    /// The places of the open calls' JSRs, oldest first.
-    pub fn links(&self) -> &[u32] {
-        &self.0[11..11 + self.0[10] as usize]
-    }
-
-    pub fn words(&self) -> &[u32; STATE_WORDS] {
-        &self.0
-    }
-}
+use crate::sys::{self, MAX_MEMORY, STATE_WORDS};
+use crate::{Ending, Refusal, Returned, Snapshot, State, Table};
 
 /// A run: how it ended, and its steps.
 #[derive(Clone, Copy, PartialEq, Eq, Debug)]
 pub struct Run {
+    /// How it ended.
     pub ending: Ending,
+    /// The steps that it took.
     pub steps: u32,
 }
 
-/// A resume goes on, or its exit cannot be taken (the machine still waits).
+/// What a resume that was not refused did.
 #[derive(Clone, Copy, PartialEq, Eq, Debug)]
 pub enum Resumed {
+    /// The machine goes on at the next run.
     GoesOn,
+    /// 26: the exit's PPM has no label; the machine still waits.
     ImpossibleExit,
 }
 
-/// A machine with its memory.
+/// A machine with its memory. Its state always passes the state check.
+///
+/// The host may write memory, the six registers and IA between calls, and nothing else. Two machines are equal if table, memory and
+/// [`State`] are.
 #[derive(Clone, PartialEq, Eq, Debug)]
 pub struct Machine<'t> {
     table: &'t Table,
@@ -68,123 +34,124 @@ pub struct Machine<'t> {
 
 impl<'t> Machine<'t> {
     /// A machine with zeroed memory of `words` words, the host's fresh words and its argument in WA.
+    ///
+    /// ```
+    /// # use torzimlak::{Machine, Refusal, Table};
+    /// # let cards = b" SEC\n SEC\n SEC\n SEC\n SEC\nSTART BRN START\n SEC\n ERB 1,A\n SEC\n ERB 1,A\n END\n";
+    /// # let table = Table::assemble(cards).unwrap();
+    /// assert_eq!(Machine::start(&table, usize::MAX, &[], 0), Err(Refusal::UnfitLength));
+    /// let machine = Machine::start(&table, 300, &[], 5).unwrap();
+    /// assert_eq!(machine.memory().len(), 300);
+    /// assert_eq!(machine.state().registers()[3], 5);
+    /// ```
+    ///
+    /// # Errors
+    /// 10: `words` is not from 256 to 8,192, or too few for the program. 43: the count of fresh words.
     pub fn start(table: &'t Table, words: usize, fresh: &[u32], argument: u32) -> Result<Machine<'t>, Refusal> {
-        Machine::start_in(table, vec![0; words], fresh, argument).map_err(|(refusal, _)| refusal)
+        // More words than any memory has are as unfit as none, and none are had without an allocation.
+        let words = if words <= MAX_MEMORY { words } else { 0 };
+        Machine::start_in(table, vec![0; words], fresh, argument).map_err(Refusal::from)
     }
 
-    /// The same in lent memory, which a refusal gives back as it was.
+    /// The same in lent memory, whose words behind the program's stay as they are.
+    ///
+    /// # Errors
+    /// As of [`Machine::start`]; the memory comes back as it was.
     pub fn start_in(
         table: &'t Table,
         mut memory: Vec<u32>,
         fresh: &[u32],
         argument: u32,
-    ) -> Result<Machine<'t>, (Refusal, Vec<u32>)> {
-        let mut state = State([0; STATE_WORDS]);
-        match sys::start(table.words(), &mut memory, fresh, argument, &mut state.0) {
+    ) -> Result<Machine<'t>, Returned> {
+        let mut state = State::blank();
+        match sys::start(table.words(), &mut memory, fresh, argument, state.lent()) {
             0 => Ok(Machine { table, memory, state }),
-            number => Err((Refusal::new(number), memory)),
+            number => Err(Returned { refusal: Refusal::answered(number), memory }),
         }
     }
 
-    /// A machine of any memory and any words of state, if they pass the state check.
+    /// A machine of any memory and any words of state.
+    ///
+    /// # Errors
+    /// 31: they do not pass the state check.
     pub fn from_parts(table: &'t Table, memory: Vec<u32>, state: [u32; STATE_WORDS]) -> Result<Machine<'t>, Refusal> {
         match sys::check_state(table.words(), memory.len(), &state) {
-            0 => Ok(Machine { table, memory, state: State(state) }),
-            number => Err(Refusal::new(number)),
+            0 => Ok(Machine { table, memory, state: State::of(state) }),
+            number => Err(Refusal::answered(number)),
         }
+    }
+
+    /// A machine that a restore left.
+    pub(crate) fn woken(table: &'t Table, memory: Vec<u32>, state: State) -> Machine<'t> {
+        Machine { table, memory, state }
     }
 
     /// At most `budget` steps.
+    ///
+    /// # Errors
+    /// 32: the budget is over 1,000,000.
     pub fn run(&mut self, budget: u32) -> Result<Run, Refusal> {
-        let (number, steps) = sys::run(self.table.words(), &mut self.memory, &mut self.state.0, budget);
-        match Ending::of(number) {
-            Some(ending) => Ok(Run { ending, steps }),
-            None => Err(Refusal::new(number)),
+        let (number, steps) = sys::run(self.table.words(), &mut self.memory, self.state.lent(), budget);
+        match Ending::try_from(number) {
+            Ok(ending) => Ok(Run { ending, steps }),
+            Err(_) => Err(Refusal::answered(number)),
         }
     }
 
     /// The host's answer to the call that the machine waits at: exit `exit`, or 0 for no number.
+    ///
+    /// # Errors
+    /// 33: it does not wait, or the exit is above the declared count.
     pub fn resume(&mut self, exit: u32) -> Result<Resumed, Refusal> {
-        match sys::resume(self.table.words(), &self.memory, &mut self.state.0, exit) {
+        match sys::resume(self.table.words(), &self.memory, self.state.lent(), exit) {
             0 => Ok(Resumed::GoesOn),
-            26 => Ok(Resumed::ImpossibleExit),
-            number => Err(Refusal::new(number)),
+            n if n == Ending::ImpossibleExit.number() => Ok(Resumed::ImpossibleExit),
+            number => Err(Refusal::answered(number)),
         }
     }
 
     /// The machine as a file; fresh words are in it as 0.
-    pub fn freeze(&self, build: u32) -> Result<Snapshot, Refusal> {
-        let longest = 4 * (self.memory.len() + 256 + 32) + 64;
-        let mut file = vec![0; longest];
-        match sys::write(self.table.words(), &self.memory, &self.state.0, build, &mut file) {
-            (0, length) => {
-                file.truncate(length as usize);
-                Ok(Snapshot(file))
-            }
-            (number, _) => Err(Refusal::new(number)),
-        }
+    pub fn freeze(&self, build: u32) -> Snapshot {
+        let mut file = vec![0; sys::FILE_BYTES - 4 * (MAX_MEMORY - self.memory.len())];
+        let (number, length) = sys::write(self.table.words(), &self.memory, self.state.words(), build, &mut file);
+        assert_eq!(number, 0, "a machine passes its checks, and the room is the longest file's");
+        file.truncate(length as usize);
+        Snapshot::from_bytes(file)
     }
 
+    /// The words of memory.
     pub fn memory(&self) -> &[u32] {
         &self.memory
     }
 
-    /// The host may write what it likes into memory.
+    /// The words of memory: the host may write any of them.
     pub fn memory_mut(&mut self) -> &mut [u32] {
         &mut self.memory
     }
 
+    /// The state beside the memory.
     pub fn state(&self) -> &State {
         &self.state
     }
 
-    /// The registers may be set: the state check looks at none of them.
+    /// Sets XL, XR, XS, WA, WB, WC.
+    ///
+    /// ```
+    /// # use torzimlak::{Machine, Table};
+    /// # let cards = b" SEC\n SEC\n SEC\n SEC\n SEC\nSTART BRN START\n SEC\n ERB 1,A\n SEC\n ERB 1,A\n END\n";
+    /// # let table = Table::assemble(cards).unwrap();
+    /// # let mut machine = Machine::start(&table, 256, &[], 0).unwrap();
+    /// machine.set_registers([1, 2, 3, 4, 5, 6]);
+    /// machine.set_ia(-7);
+    /// assert_eq!(machine.state().registers(), [1, 2, 3, 4, 5, 6]);
+    /// assert_eq!(machine.state().ia(), -7);
+    /// ```
     pub fn set_registers(&mut self, registers: [u32; 6]) {
         self.state.set_registers(registers);
     }
-}
 
-/// A frozen machine: bytes, of which any may be given.
-#[derive(Clone, PartialEq, Eq, Debug)]
-pub struct Snapshot(Vec<u8>);
-
-impl Snapshot {
-    pub fn from_bytes(bytes: Vec<u8>) -> Snapshot {
-        Snapshot(bytes)
-    }
-
-    pub fn bytes(&self) -> &[u8] {
-        &self.0
-    }
-
-    /// The words of memory that the trailer names, 0 where there is none.
-    pub fn memory_words(&self) -> usize {
-        let trailer = self.0.len().wrapping_sub(64);
-        match self.0.get(trailer.wrapping_add(8)..trailer.wrapping_add(12)) {
-            Some(m) => u32::from_le_bytes(m.try_into().unwrap()) as usize,
-            None => 0,
-        }
-    }
-
-    /// A machine woken with fresh words of the host's, in memory of its own.
-    pub fn wake<'t>(&self, table: &'t Table, build: u32, fresh: &[u32]) -> Result<Machine<'t>, Refusal> {
-        let words = self.memory_words();
-        let memory = vec![0; if words <= 8192 { words } else { 0 }];
-        self.wake_in(table, build, fresh, memory).map_err(|(refusal, _)| refusal)
-    }
-
-    /// The same in lent memory, which a refusal gives back as it was.
-    pub fn wake_in<'t>(
-        &self,
-        table: &'t Table,
-        build: u32,
-        fresh: &[u32],
-        mut memory: Vec<u32>,
-    ) -> Result<Machine<'t>, (Refusal, Vec<u32>)> {
-        let mut state = State([0; STATE_WORDS]);
-        match sys::restore(table.words(), &self.0, build, fresh, &mut memory, &mut state.0) {
-            0 => Ok(Machine { table, memory, state }),
-            number => Err((Refusal::new(number), memory)),
-        }
+    /// Sets IA; its overflow flag stays.
+    pub fn set_ia(&mut self, ia: i32) {
+        self.state.set_ia(ia);
     }
 }

@@ -1,35 +1,50 @@
 //! Programs.
 
-use crate::{sys, Refusal};
+use crate::{sys, Fault, Refusal};
 
-/// The most words that a table can have: 8 of header, 8 for each of 1,024 operations, 32 fresh addresses, 512 counts, 8,128 words.
-const MOST_WORDS: usize = 8 + 8 * 1024 + 32 + 512 + 8128;
-
-/// A program that passed the table check.
+/// A program that passed the table check: no other table can be had.
+///
+/// ```
+/// use torzimlak::Table;
+/// # fn main() -> Result<(), Box<dyn std::error::Error>> {
+/// let cards = b" SEC\n SEC\n SEC\n SEC\nF$TOK DAC 0\n SEC\nSTART MOV F$TOK,WA\n BRN START\n SEC\n ERB 1,FULL\n SEC\n ERB 1,A\n END\n";
+/// let table = Table::assemble(cards)?;
+/// assert_eq!(table.fresh_words(), 1);
+/// assert_eq!(Table::from_words(table.words().to_vec())?, table);
+/// # Ok(())
+/// # }
+/// ```
 #[derive(Clone, PartialEq, Eq, Debug)]
 pub struct Table(Vec<u32>);
 
 impl Table {
-    /// The table of some cards.
-    pub fn assemble(cards: &[u8]) -> Result<Table, Refusal> {
-        let mut words = vec![0; MOST_WORDS];
+    /// The table of some cards. Needs about 1.1 MB of stack.
+    ///
+    /// # Errors
+    /// 1 to 9, with the line where there is one.
+    pub fn assemble(cards: &[u8]) -> Result<Table, Fault> {
+        let mut words = vec![0; sys::TABLE_WORDS];
         match sys::assemble(cards, &mut words) {
             (0, length) => {
                 words.truncate(length as usize);
                 Ok(Table(words))
             }
-            (number, line) => Err(Refusal::at(number, line)),
+            (number, line) => Err(Fault::answered(number, line)),
         }
     }
 
     /// A table from words that somebody else kept: any words may be given.
+    ///
+    /// # Errors
+    /// 30: they are no lawful table.
     pub fn from_words(words: Vec<u32>) -> Result<Table, Refusal> {
         match sys::check_table(&words) {
             0 => Ok(Table(words)),
-            number => Err(Refusal::new(number)),
+            number => Err(Refusal::answered(number)),
         }
     }
 
+    /// The words, to be kept.
     pub fn words(&self) -> &[u32] {
         &self.0
     }

@@ -6,37 +6,42 @@ mod common;
 use common::{cases, deck, share, spoil, text, Random};
 use std::collections::BTreeSet;
 use torzimlak::sys;
-use torzimlak_plain::{assemble, check, machine, snapshot, Table};
+use torzimlak_plain::{assemble, check, host, machine, Table};
 
 const ROOM: usize = 20_000;
 const STATE_WORDS: usize = sys::STATE_WORDS;
 
-/// The words of a plain state.
-fn words(s: &machine::State) -> Vec<u32> {
-    let mut w = vec![0; STATE_WORDS];
-    w[..6].copy_from_slice(&s.regs[1..]);
-    w[6] = s.ia;
-    w[7] = s.flag as u32;
-    w[8] = s.pc;
-    w[9] = s.waiting as u32;
-    w[10] = s.links.len() as u32;
-    w[11..11 + s.links.len()].copy_from_slice(&s.links);
-    w
-}
-
-/// A plain state of some words, if they are one.
-fn state(w: &[u32]) -> Option<machine::State> {
-    if w.len() < STATE_WORDS || w[7] > 1 || w[9] > 1 || w[10] > 256 {
-        return None;
+/// Words of a state as a careless host lends them: anything from the links' count on, and some words more.
+fn litter(r: &mut Random, words: &mut Vec<u32>) {
+    if words.len() >= STATE_WORDS {
+        let end = sys::LINKS + (words[sys::COUNT] as usize).min(256);
+        words[end..].iter_mut().for_each(|w| *w = r.next() as u32);
     }
-    let mut regs = [0; 7];
-    regs[1..].copy_from_slice(&w[..6]);
-    Some(machine::State { regs, ia: w[6], flag: w[7] == 1, pc: w[8], waiting: w[9] == 1, links: w[11..11 + w[10] as usize].to_vec() })
+    words.resize_with(words.len() + r.below(4), || r.next() as u32);
 }
 
-/// What the links from the count on hold is of no meaning.
-fn same_state(lent: &[u32], plain: &machine::State) -> bool {
-    state(lent).is_some_and(|s| s == *plain)
+/// Words that are a state no longer, for the most part.
+fn spoil_state(r: &mut Random, words: &mut Vec<u32>) {
+    if r.once_in(4) {
+        words.truncate(r.below(STATE_WORDS));
+        return;
+    }
+    let at = *r.pick(&[sys::FLAG, sys::PLACE, sys::WAITING, sys::COUNT, sys::LINKS, sys::LINKS + 1]);
+    words[at] = *r.pick(&[0, 1, 2, 3, 5, 9, 256, 257, u32::MAX]);
+}
+
+/// A table with one bit changed.
+fn spoil_table(r: &mut Random, t: &[u32]) -> Vec<u32> {
+    let mut t = t.to_vec();
+    let at = r.below(t.len());
+    t[at] ^= 1 << r.below(32);
+    t
+}
+
+/// Room for a state that somebody used before: too little once in six, else enough or a little more.
+fn used_room(r: &mut Random) -> Vec<u32> {
+    let length = if r.once_in(6) { r.below(STATE_WORDS) } else { STATE_WORDS + r.below(4) };
+    (0..length).map(|_| r.next() as u32).collect()
 }
 
 fn lawful(r: &mut Random) -> Vec<u32> {
@@ -46,6 +51,26 @@ fn lawful(r: &mut Random) -> Vec<u32> {
         }
     }
 }
+
+/// A procedure that calls itself, which random decks seldom do often enough for the 257th link.
+const DEEP: &[u8] = b" SEC
+DEEP$ INP R,0
+ SEC
+ SEC
+ SEC
+ SEC
+START JSR DEEP$
+ BRN START
+DEEP$ PRC R,0
+ JSR DEEP$
+ EXI
+ ENP
+ SEC
+ ERB 1,STACK
+ SEC
+ ERB 1,ERROR
+ END
+";
 
 /// Each number is met, if all cases were tried.
 fn expect_all(what: &str, seen: &BTreeSet<u32>, due: impl IntoIterator<Item = u32>) {
@@ -141,53 +166,68 @@ fn tables() {
     assert!(good > cases(1000) && bad > cases(1000));
 }
 
+/// A run, then a resume, on both sides: the same answers, and the same words left in all that is lent.
+fn calls_alike(t: &[u32], memory: &mut Vec<u32>, words: &mut Vec<u32>, budget: u32, exit: u32) -> (u32, u32) {
+    let (mut own, mut plain) = (memory.clone(), words.clone());
+    let ran = host::run(t, &mut own, &mut plain, budget);
+    assert_eq!(sys::run(t, memory, words, budget), ran);
+    assert_eq!((&*memory, &*words), (&own, &plain));
+    let resumed = host::resume(t, &mut own, &mut plain, exit);
+    assert_eq!(sys::resume(t, memory, words, exit), resumed);
+    assert_eq!((&*memory, &*words), (&own, &plain));
+    (ran.0, resumed)
+}
+
+/// The host's writes of registers and IA.
+fn host_writes(r: &mut Random, words: &mut [u32], m: usize) {
+    for x in words.iter_mut().take(sys::IA) {
+        *x = match r.below(6) {
+            0 => *x,
+            1 => 4 * r.below(m) as u32,
+            2 => r.below(4 * m) as u32,
+            3 => 1_073_741_824 + 4 * r.below(40) as u32,
+            4 => r.below(60) as u32,
+            _ => r.next() as u32,
+        };
+    }
+    words[sys::IA] = if r.once_in(2) { (r.below(100) as u32).wrapping_neg() } else { r.next() as u32 };
+}
+
 #[test]
 fn runs() {
     let mut r = Random::new(4);
-    let mut seen = BTreeSet::new();
+    let (mut ran, mut resumed) = (BTreeSet::new(), BTreeSet::new());
+    let deep = assemble::assemble(DEEP, ROOM).expect("a lawful deck");
     for _ in 0..cases(15_000) {
-        let t = lawful(&mut r);
+        let t = if r.once_in(500) { deep.clone() } else { lawful(&mut r) };
         let m = *r.pick(&[256, 257, 300, 512]);
         let fill = r.below(3);
-        let memory: Vec<u32> = (0..m).map(|_| match fill { 0 => 0, 1 => r.below(1200) as u32, _ => r.next() as u32 }).collect();
+        let mut memory: Vec<u32> = (0..m).map(|_| match fill { 0 => 0, 1 => r.below(1200) as u32, _ => r.next() as u32 }).collect();
         let fresh: Vec<u32> = (0..Table(&t).fresh_count()).map(|_| r.next() as u32).collect();
-        let argument = r.below(100) as u32;
-        let (mut lent, mut plain) = (memory.clone(), memory);
-        let mut lent_state = vec![0; STATE_WORDS];
-        let mut s = machine::start(&t, &mut plain, &fresh, argument).expect("a lawful start");
-        assert_eq!(sys::start(&t, &mut lent, &fresh, argument, &mut lent_state), 0);
-        assert_eq!((&lent, words(&s)), (&plain, lent_state.clone()));
+        let mut words = vec![0; STATE_WORDS];
+        assert_eq!(sys::start(&t, &mut memory, &fresh, r.below(100) as u32, &mut words), 0);
         for _ in 0..6 {
             if r.once_in(2) {
-                let mut regs = s.regs;
-                for x in regs.iter_mut().skip(1) {
-                    *x = match r.below(6) {
-                        0 => *x,
-                        1 => 4 * r.below(m) as u32,
-                        2 => r.below(4 * m) as u32,
-                        3 => 1_073_741_824 + 4 * r.below(40) as u32,
-                        4 => r.below(60) as u32,
-                        _ => r.next() as u32,
-                    };
-                }
-                s.regs = regs;
-                s.ia = if r.once_in(2) { (r.below(100) as u32).wrapping_neg() } else { r.next() as u32 };
-                lent_state = words(&s);
+                host_writes(&mut r, &mut words, m);
             }
-            let budget = *r.pick(&[0, 1, 2, 17, 400, 1_000_001]);
-            let due = machine::run(&t, &mut plain, &mut s, budget);
-            assert_eq!(sys::run(&t, &mut lent, &mut lent_state, budget), due);
-            assert!(same_state(&lent_state, &s), "{lent_state:?} {s:?}");
-            assert_eq!(lent, plain);
-            seen.insert(due.0);
-            let exit = r.below(4) as u32;
-            let due = machine::resume(&t, &mut plain, &mut s, exit);
-            assert_eq!(sys::resume(&t, &lent, &mut lent_state, exit), due);
-            assert!(same_state(&lent_state, &s));
-            seen.insert(due);
+            words.truncate(STATE_WORDS);
+            litter(&mut r, &mut words);
+            let (budget, exit) = (*r.pick(&[0, 1, 2, 17, 400, 1_000_001]), r.below(4) as u32);
+            let answers = calls_alike(&t, &mut memory, &mut words, budget, exit);
+            ran.insert(answers.0);
+            resumed.insert(answers.1);
         }
+        // Once more on a table or a state that is damaged.
+        let table = if r.once_in(3) { spoil_table(&mut r, &t) } else { t };
+        if r.once_in(2) {
+            spoil_state(&mut r, &mut words);
+        }
+        let answers = calls_alike(&table, &mut memory, &mut words, 9, 0);
+        ran.insert(answers.0);
+        resumed.insert(answers.1);
     }
-    expect_all("runs", &seen, [0, 20, 21, 22, 23, 24, 25, 26, 27, 28, 29, 32, 33]);
+    expect_all("runs", &ran, 20..=32);
+    expect_all("resumes", &resumed, [0, 26, 30, 31, 33]);
 }
 
 #[test]
@@ -195,39 +235,34 @@ fn starts() {
     let mut r = Random::new(5);
     let mut seen = BTreeSet::new();
     for _ in 0..cases(10_000) {
-        let mut t = lawful(&mut r);
-        if r.once_in(5) {
-            let at = r.below(t.len());
-            t[at] ^= 1 << r.below(32);
-        }
+        let t = lawful(&mut r);
+        let t = if r.once_in(5) { spoil_table(&mut r, &t) } else { t };
         let m = *r.pick(&[0, 63, 255, 256, 300, 8192, 8193]);
-        let memory: Vec<u32> = (0..m).map(|i| i as u32 * 7).collect();
+        let mut memory: Vec<u32> = (0..m).map(|i| i as u32 * 7).collect();
         let due_fresh = (Table(&t).fresh_count() % 40) as i64 + [0, 0, 0, 1, -1][r.below(5)];
         let fresh = vec![9; due_fresh.max(0) as usize];
-        let (mut lent, mut plain) = (memory.clone(), memory);
-        let before = vec![3; STATE_WORDS];
-        let mut lent_state = before.clone();
-        let number = sys::start(&t, &mut lent, &fresh, 5, &mut lent_state);
-        match machine::start(&t, &mut plain, &fresh, 5) {
-            Ok(s) => {
-                assert_eq!(number, 0);
-                assert_eq!(words(&s), lent_state);
-            }
-            Err(n) => {
-                assert_eq!(number, n);
-                assert_eq!(lent_state, before);
-            }
-        }
-        assert_eq!(lent, plain);
-        seen.insert(number);
+        let mut words = used_room(&mut r);
+        let (mut own, mut plain) = (memory.clone(), words.clone());
+        let due = host::start(&t, &mut own, &fresh, 5, &mut plain);
+        assert_eq!(sys::start(&t, &mut memory, &fresh, 5, &mut words), due);
+        assert_eq!((memory, words), (own, plain));
+        seen.insert(due);
     }
-    expect_all("starts", &seen, [0, 10, 30, 43]);
+    expect_all("starts", &seen, [0, 10, 30, 31, 43]);
+}
+
+/// What a machine's calls on files answered.
+#[derive(Default)]
+struct Seen {
+    checks: BTreeSet<u32>,
+    writes: BTreeSet<u32>,
+    restores: BTreeSet<u32>,
 }
 
 #[test]
 fn states_and_files() {
     let mut r = Random::new(6);
-    let mut seen = BTreeSet::new();
+    let mut seen = Seen::default();
     for _ in 0..cases(20_000) {
         let t = lawful(&mut r);
         let m = 256 + r.below(40);
@@ -235,46 +270,33 @@ fn states_and_files() {
         let fresh = vec![7; Table(&t).fresh_count()];
         let mut s = machine::start(&t, &mut memory, &fresh, 1).unwrap();
         machine::run(&t, &mut memory, &mut s, r.below(60) as u32);
-        let mut w = words(&s);
+        let mut words = host::words(&s).to_vec();
+        litter(&mut r, &mut words);
         if r.once_in(3) {
-            let at = *r.pick(&[7, 8, 9, 10, 11, 12]);
-            w[at] = *r.pick(&[0, 1, 2, 3, 5, 9, 256, 257, u32::MAX]);
+            spoil_state(&mut r, &mut words);
         }
-        if r.once_in(40) {
-            w.truncate(266);
-        }
-        let given = state(&w);
-        let due = if given.as_ref().is_some_and(|s| machine::check_state(&t, m, s)) { 0 } else { 31 };
-        assert_eq!(sys::check_state(&t, m, &w), due, "{w:?}");
-        seen.insert(due);
+        let table = if r.once_in(30) { spoil_table(&mut r, &t) } else { t };
+        let due = host::check_state(&table, m, &words);
+        assert_eq!(sys::check_state(&table, m, &words), due, "{words:?}");
+        seen.checks.insert(due);
         let room = if r.once_in(10) { r.below(1400) } else { 4000 };
-        let mut file = vec![0xEE; room];
-        let answer = sys::write(&t, &memory, &w, 77, &mut file);
-        let mut plain_file = vec![0xEE; room];
-        let plain_answer = match &given {
-            None => Err(31),
-            Some(s) => snapshot::write(&t, &memory, s, 77, &mut plain_file),
-        };
-        assert_eq!(file, plain_file);
-        match plain_answer {
-            Err(n) => {
-                assert_eq!(answer, (n, 0));
-                seen.insert(n);
-                continue;
-            }
-            Ok(length) => {
-                assert_eq!(answer, (0, length as u32));
-                file.truncate(length);
-            }
+        let (mut file, mut plain) = (vec![0xEE; room], vec![0xEE; room]);
+        let due = host::write(&table, &memory, &words, 77, &mut plain);
+        assert_eq!(sys::write(&table, &memory, &words, 77, &mut file), due);
+        assert_eq!(file, plain);
+        seen.writes.insert(due.0);
+        if due.0 == 0 {
+            file.truncate(due.1 as usize);
+            seen.restores.insert(restores_alike(&mut r, &table, file));
         }
-        damaged(&mut r, &t, file, &mut seen);
     }
-    expect_all("states and files", &seen, [0, 30, 31, 40, 41, 42, 43, 44, 45]);
+    expect_all("checks", &seen.checks, [0, 30, 31]);
+    expect_all("writes", &seen.writes, [0, 30, 31, 45]);
+    expect_all("restores", &seen.restores, [0, 30, 31, 40, 41, 42, 43, 44]);
 }
 
-/// Both restores of a file that is damaged for the most part.
-fn damaged(r: &mut Random, t: &[u32], mut file: Vec<u8>, seen: &mut BTreeSet<u32>) {
-    let mut t = t.to_vec();
+/// Both restores of a file that is damaged for the most part: the same answer, and the same words left.
+fn restores_alike(r: &mut Random, t: &[u32], mut file: Vec<u8>) -> u32 {
     let m = u32::from_le_bytes(file[file.len() - 56..file.len() - 52].try_into().unwrap()) as usize;
     for _ in 0..r.below(3) {
         let n = file.len();
@@ -288,29 +310,15 @@ fn damaged(r: &mut Random, t: &[u32], mut file: Vec<u8>, seen: &mut BTreeSet<u32
             _ => {}
         }
     }
-    if r.once_in(30) {
-        let at = r.below(t.len());
-        t[at] ^= 1;
-    }
+    let t = if r.once_in(30) { spoil_table(r, t) } else { t.to_vec() };
     let build = if r.once_in(12) { 78 } else { 77 };
     let count = (Table(&t).fresh_count() as i64 + [0, 0, 0, 0, 1][r.below(5)]).min(40);
     let fresh: Vec<u32> = (0..count).map(|_| r.next() as u32).collect();
-    let lent_m = if r.once_in(10) { m.min(9000) + 1 } else { m.min(9000) };
-    let mut lent = vec![5; lent_m];
-    let mut plain = lent.clone();
-    let before = vec![6; STATE_WORDS];
-    let mut lent_state = before.clone();
-    let number = sys::restore(&t, &file, build, &fresh, &mut lent, &mut lent_state);
-    match snapshot::restore(&t, &file, build, &fresh, &mut plain) {
-        Ok(s) => {
-            assert_eq!(number, 0);
-            assert!(same_state(&lent_state, &s));
-        }
-        Err(n) => {
-            assert_eq!(number, n);
-            assert_eq!(lent_state, before);
-        }
-    }
-    assert_eq!(lent, plain);
-    seen.insert(number);
+    let mut memory = vec![5; m + r.once_in(10) as usize];
+    let mut words = used_room(r);
+    let (mut own, mut plain) = (memory.clone(), words.clone());
+    let due = host::restore(&t, &file, build, &fresh, &mut own, &mut plain);
+    assert_eq!(sys::restore(&t, &file, build, &fresh, &mut memory, &mut words), due);
+    assert_eq!((memory, words), (own, plain));
+    due
 }

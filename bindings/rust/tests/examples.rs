@@ -29,7 +29,7 @@ fn token(word: u32) -> String {
     let table = table("token");
     let mut warm = Machine::start(&table, 256, &[0], 0).unwrap();
     assert_eq!(warm.run(BUDGET).unwrap().ending, Ending::Waiting);
-    let mut machine = warm.freeze(1).unwrap().wake(&table, 1, &[word]).unwrap();
+    let mut machine = warm.freeze(1).wake(&table, 1, &[word]).unwrap();
     machine.resume(0).unwrap();
     assert_eq!(machine.run(BUDGET).unwrap().ending, Ending::Waiting);
     shown(&machine)

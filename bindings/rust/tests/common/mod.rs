@@ -61,11 +61,11 @@ fn external(i: usize) -> String {
 }
 
 fn register_x(r: &mut Random) -> &'static str {
-    *r.pick::<&str>(&["XL", "XR", "XS", "XT"])
+    r.pick::<&str>(&["XL", "XR", "XS", "XT"])
 }
 
 fn register_w(r: &mut Random) -> &'static str {
-    *r.pick::<&str>(&["WA", "WB", "WC"])
+    r.pick::<&str>(&["WA", "WB", "WC"])
 }
 
 /// A text for an operand of a format; `label` names a place of the body.
@@ -126,6 +126,15 @@ fn written(r: &mut Random, names: &Names, row: &Row, label: &str) -> String {
     format!("{} {}", row.mnemonic, texts.join(","))
 }
 
+/// The way out of a procedure with so many exits: by one of them, or past them all.
+fn exi(r: &mut Random, exits: usize) -> String {
+    if exits > 0 && r.once_in(2) {
+        format!("EXI {}", 1 + r.below(exits))
+    } else {
+        "EXI".into()
+    }
+}
+
 /// A body's cards: some operations with labels `prefix` 000 and on, the last of which does not go on.
 fn body(r: &mut Random, names: &Names, prefix: &str, inside: Option<usize>, deck: &mut Vec<String>) {
     let count = 2 + r.below(14);
@@ -181,9 +190,8 @@ fn body(r: &mut Random, names: &Names, prefix: &str, inside: Option<usize>, deck
             }
             Class::Erb => deck.push(format!("{} ERB {},NO GOOD", label(i), r.below(900))),
             Class::Exi => {
-                let exits = names.procedures[inside.unwrap()];
-                let number = if exits > 0 && r.once_in(2) { format!(" {}", 1 + r.below(exits)) } else { String::new() };
-                deck.push(format!("{} EXI{number}", label(i)));
+                let card = exi(r, names.procedures[inside.unwrap()]);
+                deck.push(format!("{} {card}", label(i)));
             }
             _ => {
                 let card = written(r, names, row, &target);
@@ -192,7 +200,7 @@ fn body(r: &mut Random, names: &Names, prefix: &str, inside: Option<usize>, deck
         }
     }
     deck.push(match inside {
-        Some(_) => " EXI".into(),
+        Some(p) => format!(" {}", exi(r, names.procedures[p])),
         None => format!(" BRN {}", label(0)),
     });
 }
