@@ -1,4 +1,4 @@
--- What the two checks of a call find, as the rules' verdict; and refusals in their order.
+-- What the two checks of a call find, as the rules' verdict.
 -- Assumes nothing.
 use Prim.Native.Nat.{ℕ}
 use mathlib.Core.Path.{_≡_, refl, sym, _∙_}
@@ -12,15 +12,6 @@ use Rattle.rules.specs.Check.{tableOk}
 use Rattle.rules.specs.State as Rules
 use Rattle.rules.specs.State.{stateOk}
 use Rattle.rules.specs.Run.{admitted}
-
--- a test that passes is passed over, and one that does not is the answer
-pub skip : {A : Type 0} (b : Bool) (r x : A) → b ≡ true → if (not b) r x ≡ x
-unfolding if
-skip b r x e = rw e
-
-pub stop : {A : Type 0} (b : Bool) (r x : A) → b ≡ false → if (not b) r x ≡ r
-unfolding if
-stop b r x e = rw e
 
 -- the table passed
 pub table-passed : (t : List ℕ) (r : Bool) → r ≡ tableOk t → not r ≡ false → Ok (tableOk t)

@@ -6,8 +6,8 @@ ghost use lib.ListN.{length};
 ghost use Rattle.admission.specs.Admit.{verdictOf};
 ghost use Rattle.rules.specs.Run.{admitted};
 ghost use Rattle.states.specs.Views.{stateOf};
+use state_check::passing::state_ok;
 use states::State;
-use states::passing::state_ok;
 use tables::check_table;
 
 // What the checks find: both pass, or the first that fails.

@@ -10,9 +10,9 @@ use Rattle.base.specs.Test.{if}
 use Rattle.base.specs.Lists.{_at_, member}
 use Rattle.ops.specs.Format.{Format, noKind}
 use Rattle.ops.specs.Machine.{cfpM}
-use Rattle.ops.specs.Supplied.{suppliedOf}
-use Rattle.ops.specs.declared.supplied.Supplied.{Supplied}
-use Rattle.ops.specs.declared.supplied.Supplied.the-variants.{Value, Absent}
+use Rattle.supplied.specs.Supplied.{suppliedOf}
+use Rattle.supplied.specs.declared.Supplied.{Supplied}
+use Rattle.supplied.specs.declared.Supplied.the-variants.{Value, Absent}
 use Rattle.language.specs.Text.{Parsed, parsed, unparsed}
 use Rattle.language.specs.Operation.{formatsOf}
 use Rattle.language.specs.Form.{Form, constant, difference, falling, formless, indexed, indirect, literal, multiple, named, omitted, plain, procedureType, register, rising, signed, star, sum, writtenForms}

@@ -22,8 +22,9 @@ use Rattle.language.specs.Operand.{Outcome, gives, operandAt, outcomes}
 use Rattle.language.specs.Image.{countOr, entryBy, entryIn, firstOperand, isFresh, rowEntry, thirdOf, unreadEntry, withoutType, wordsIn}
 use Rattle.language.proofs.Lengths.{entries-length, words-length}
 use Rattle.asm_types.specs.declared.Given.{Given}
-use Rattle.asm_operations.specs.Codes.{codeOf, rowOf}
-use Rattle.asm_operations.proofs.Laws.{code-below}
+use Rattle.asm_sections.specs.Codes.{codeOf}
+use Rattle.asm_sections.proofs.Laws.{code-below}
+use Rattle.asm_operations.specs.Codes.{rowOf}
 use Rattle.asm_draft.specs.Operands.{FieldsOf, typeCount}
 
 pub type-count : (b : Beside) → typeCount b ≡ if (eqb (besideCode b) 1) 1 0

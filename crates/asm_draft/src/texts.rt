@@ -1,37 +1,13 @@
 // The words of a DTC's text: four characters a word, the last zero-filled [S Cards].
 ghost use mathlib.Core.Path.{_≡_};
-ghost use Prim.Native.Nat.{_+_, _<_, _≤_};
+ghost use Prim.Native.Nat.{_+_, _≤_};
 ghost use lib.ListN.{length};
-ghost use Rattle.base.specs.Lists.{_at_};
-ghost use Rattle.words.specs.Words.{textWords, wordOf};
+ghost use Rattle.words.specs.Words.{textWords};
 ghost use Rattle.language.specs.Form.{quoted};
 ghost use Rattle.asm_draft.specs.Written.{Written};
 use crate::store::put;
 use asm_forms::texts::quoted;
-use words::word_of;
-
-// Character i, or 0 past the end.
-fn char_at(t: &[u8], i: usize) -> u8
-    ensures { λ r. ⌜ r ≡ now (t .entry) at i ⌝ }
-{
-    if i < t.len() {
-        return t[i];
-    }
-    0
-}
-
-// The word of the characters from i on.
-fn text_word(t: &[u8], i: usize) -> u32
-    requires { ⌜ i < length (now t) ⌝ }
-    ensures { λ r. ⌜ r ≡ wordOf (now (t .entry) at i) (now (t .entry) at (i + 1)) (now (t .entry) at (i + 2)) (now (t .entry) at (i + 3)) ⌝ }
-{
-    word_of(
-        t[i],
-        char_at(t, i + 1),
-        char_at(t, i + 2),
-        char_at(t, i + 3),
-    )
-}
+use asm_text_words::text_word;
 
 // The words of some characters.
 fn put_chars(t: &[u8], draft: &mut [u32], end: usize) -> usize

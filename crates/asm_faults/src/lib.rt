@@ -16,8 +16,8 @@ use crate::lines::line_formed;
 use crate::numbers::*;
 use crate::operands::lists_right;
 use crate::operands::operands_right;
-use asm_operations::sections::of_section;
 use asm_outcomes::all_defined;
+use asm_sections::of_section;
 use asm_types::Card;
 use ops::table::Operations;
 

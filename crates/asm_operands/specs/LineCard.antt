@@ -5,7 +5,7 @@ use mathlib.Core.Bool.{Bool}
 use mathlib.Core.List.{List}
 use Rattle.base.specs.Test.{if}
 use Rattle.base.specs.Lists.{_at_}
-use Rattle.ops.specs.Supplied.{suppliedOf}
+use Rattle.supplied.specs.Supplied.{suppliedOf}
 use Rattle.language.specs.Card.{Card}
 use Rattle.language.specs.Operation.{empty}
 use Rattle.language.specs.Operand.{Outcome, subtracted, summed, suppliedBy}

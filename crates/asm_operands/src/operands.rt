@@ -28,8 +28,8 @@ use asm_values::values::symbol_by;
 use asm_values::values::value_within;
 use ops::constants::Machine;
 use ops::format::*;
-use ops::supplied::Supplied;
-use ops::supplied::supplied_value;
+use supplied::Supplied;
+use supplied::supplied_value;
 
 // A kind and a register.
 fn gives_register(kind: u32, reg: u32) -> Outcome

@@ -1,13 +1,13 @@
 -- The words of an operation's formats are those that the table's words give, and they tell how many there are: one test over all rows.
 -- Assumes nothing.
-use Prim.Native.Nat.{ℕ, zero, suc, _+_, _<_, _≤_}
+use Prim.Native.Nat.{ℕ, zero, suc, _+_, _<_}
 use native.Mathlib.Omega.{arith}
-use mathlib.Core.Path.{_≡_, refl, sym, ap, subst, _∙_}
+use mathlib.Core.Path.{_≡_, refl, sym, subst}
 use mathlib.Core.Bool.{Bool, true, false}
 use mathlib.Core.List.{List}
-use lib.Dec.{eqb, leb, ltb}
+use lib.Dec.{eqb, ltb}
 use lib.ListN.{getD, length}
-use borrow.Author.Tests.{le-ltb, lt-ltb, ltb-false, ltb-true}
+use borrow.Author.Tests.{lt-ltb, ltb-false, ltb-true}
 use Rattle.base.specs.Test.{_and_, if, Ok}
 use Rattle.base.proofs.Bool.{and-l, and-r, ok-eq}
 use Rattle.ops.specs.Format.{Format, NONE, formatWord}
@@ -16,8 +16,10 @@ use Rattle.ops.specs.Ops.{Row, cellsOf, rows}
 use Rattle.ops.proofs.Every.{every, every-at}
 use Rattle.ops.proofs.Rows.{rows-count}
 use Rattle.language.specs.Operation.{Assembly, DAC, DBC, DIC, DTC, EJC, END, EQU, EXP, GLB, INP, INR, Operation, SEC, TTL, assemblyRow, assembles, empty, formatsOf, malformed, operates, rowFormats, unknown}
-use Rattle.asm_operations.specs.Codes.{assemblyCode, assemblyFormat, codeOf, firstFormat, operandFormat, rowFormat, rowOf}
-use Rattle.asm_operations.proofs.Laws.{code-below, row-past}
+use Rattle.asm_sections.specs.Codes.{assemblyCode, codeOf}
+use Rattle.asm_sections.proofs.Laws.{code-below}
+use Rattle.asm_operations.specs.Codes.{assemblyFormat, firstFormat, operandFormat, rowFormat, rowOf}
+use Rattle.asm_operations.proofs.Laws.{row-past}
 
 -- the word of format i of a list
 abbrev pub wordAt : List Format → ℕ → ℕ

@@ -1,39 +1,13 @@
--- An operation as numbers: its code, its row in the operation table, and the words of its formats as the code reads them.
+-- An operation as numbers: its row in the operation table, and the words of its formats as the code reads them.
 -- Assumes nothing.
 use Prim.Native.Nat.{ℕ, _+_, _-_}
-use mathlib.Core.Bool.{Bool}
-use mathlib.Core.List.{List, [], _∷_}
 use lib.Dec.{eqb, leb}
 use lib.ListN.{getD}
 use Rattle.base.specs.Test.{if}
 use Rattle.ops.specs.Format.{INT, NONE, VAL, besideCode, formatWord, typed}
 use Rattle.ops.specs.Lookup.{noRow, rowAt}
 use Rattle.ops.specs.Ops.{Row, cellsOf}
-use Rattle.language.specs.Operation.{ADDR, Assembly, DAC, DBC, DIC, DTC, EJC, END, EQOP, EQU, EXP, GLB, INP, INR, INTEGER, Operation, PTYP, SEC, TTL, assembles, empty, malformed, operates, unknown}
-
--- the assembly operations by their numbers
-abbrev pub assemblyCode : Assembly → ℕ
-assemblyCode SEC = 0
-assemblyCode END = 1
-assemblyCode TTL = 2
-assemblyCode EJC = 3
-assemblyCode EXP = 4
-assemblyCode INP = 5
-assemblyCode INR = 6
-assemblyCode GLB = 7
-assemblyCode EQU = 8
-assemblyCode DAC = 9
-assemblyCode DIC = 10
-assemblyCode DBC = 11
-assemblyCode DTC = 12
-
--- an operation's code: the number of an assembly operation, or what else it is
-unfoldable pub codeOf : Operation → ℕ
-codeOf empty = 13
-codeOf malformed = 14
-codeOf unknown = 15
-codeOf (assembles a) = assemblyCode a
-codeOf (operates i) = 16
+use Rattle.language.specs.Operation.{ADDR, EQOP, INTEGER, Operation, PTYP, assembles, empty, malformed, operates, unknown}
 
 -- the row of an operation; one that has none has the row past the last
 unfoldable pub rowOf : Operation → Row

@@ -1,9 +1,8 @@
-// The operations of cards: what a line's operation is, where it stands, its label, its sort and the formats of its operands [S Cards].
+// The operations of cards: what a line's operation is, its label, its sort and the formats of its operands [S Cards].
 // Functions that read the operation table take it lent.
 pub mod card_format;
 pub mod codes;
 pub mod formats;
 pub mod labels;
 pub mod names;
-pub mod sections;
 pub mod sorts;

@@ -11,7 +11,7 @@ use lib.Dec.{eqb, ltb}
 use lib.ListN.{getD}
 use borrow.Author.Tests.{eq-eqb, ne-eqb, lt-ltb, le-ltb}
 use Rattle.base.specs.Test.{Ok, _and_, _or_, if}
-use Rattle.base.proofs.Bool.{and-l, and-r, test-true, true-ok}
+use Rattle.base.proofs.Bool.{and-l, and-r, test-true, true-ok, if-no, if-yes}
 use Rattle.ops.specs.Class.{Class, classCode, executes, marks, none, goes, forks, BRN, JMG, BRI, BSW, ENT, RTN, JSR, EXI, SSS, ERB, CHK, PPM, ERR, IFF, ESW, PRC, ENP}
 use Rattle.ops.specs.Format.{noKind}
 use Rattle.rules.specs.Check.{allExits, belowIff, classRules, exitList, exitNumberOk, faultsIn, flowRules, holds, isExit, reaches, valueKnown}
@@ -22,7 +22,7 @@ use Rattle.shape_core.specs.Counted.{exitsOf}
 use Rattle.shape_core.specs.declared.exits.Exits.the-variants as exits
 use Rattle.shape_core.proofs.Codes.{code-same, is-code}
 use Rattle.shape_core.proofs.Lists.{callee-named, callee-unnamed, names-place, other-place}
-use Rattle.shape_core.proofs.Tests.{and-no, and-none, and-yes, if-no, if-yes, not-no, not-yes, or-no, or-yes}
+use Rattle.shape_core.proofs.Tests.{and-no, and-none, and-yes, not-no, not-yes, or-no, or-yes}
 use Rattle.language.specs.Fault.{countKnown, listRules, looseClass}
 use Rattle.language.specs.Text.{Parsed, parsed}
 use Rattle.asm_shapes.proofs.Smallest.{allShape, operand-least, pair-first, pair-none, pair-second, shape-faults}

@@ -7,13 +7,12 @@ use mathlib.Core.List.{List, [], _∷_}
 use native.Mathlib.Omega.{arith}
 use borrow.Author.Tests.{lt-leb}
 use Rattle.base.specs.Test.{Ok, _and_, _or_, if}
-use Rattle.base.proofs.Bool.{and-l, and-r, by-if, failed}
+use Rattle.base.proofs.Bool.{and-l, and-r, by-if, failed, if-no, if-yes}
 use Rattle.rules.specs.Check.{Rule, classRules, faultAt, faultsIn, fieldsOk, holds, isOutside, needs, smaller, startsSection}
 use Rattle.rules.specs.Number.{Fault, badList, badOperand, badShape, faultNumber}
 use Rattle.rules.specs.Table.{classAt}
 use Rattle.ops.specs.Ops.{rows}
 use Rattle.entries.specs.Coded.{apartAt}
-use Rattle.shape_core.proofs.Tests.{if-no, if-yes}
 use Rattle.language.specs.Fault.{looseClass, looseFault}
 use Rattle.language.specs.Text.{Parsed}
 use Rattle.asm_shapes.specs.Shared.{beside, shared}

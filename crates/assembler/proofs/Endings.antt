@@ -4,13 +4,12 @@ use Prim.Native.Nat.{ℕ, _+_, _<_, _≤_}
 use mathlib.Core.Path.{_≡_, refl, sym, ap, subst, _∙_}
 use mathlib.Core.Bool.{Bool, true, false}
 use mathlib.Core.List.{List, _++_}
-use native.Mathlib.Omega.{arith}
 use borrow.Author.Tests.{le-leb, lt-leb}
 use lib.Dec.{leb}
 use lib.ListN.{drop, length}
 use Rattle.base.specs.Test.{_and_, if}
 use Rattle.rules.specs.Check.{sectionsOk}
-use Rattle.shape_core.proofs.Tests.{if-no, if-yes}
+use Rattle.base.proofs.Bool.{if-no, if-yes}
 use Rattle.language.specs.Text.{maxBytes}
 use Rattle.language.specs.Card.{cardsOf}
 use Rattle.language.specs.Symbol.{allPlaced}
@@ -19,13 +18,14 @@ use Rattle.language.specs.Answer.{Answer, Refusal, answerOf, assembled, faulty,
 use Rattle.assembler.specs.Answers.{Answers, answerView}
 use Rattle.asm_types.specs.Views.{symbolsIn}
 use Rattle.asm_collect.specs.declared.Collected.{Collected}
+use Rattle.asm_answers.specs.Room.{Placed}
 use Rattle.assembler.specs.Judges.{FirstFault, Prepared, deckFrom, faultIn}
 use Rattle.assembler.proofs.Tables.{complete-is, deck-is, within-is}
 use Rattle.assembler.specs.declared.Fault.{Fault}
 use Rattle.assembler.specs.declared.Assembled.{Assembled}
 use Rattle.assembler.specs.declared.Assembled.the-variants.{Done, LongText, Faulty, Incomplete, OverLimit, ShortRoom}
-use Rattle.assembler.specs.declared.judge.Verdict.{Verdict}
-use Rattle.assembler.specs.declared.judge.Verdict.the-variants.{Clear, Broken}
+use Rattle.asm_answers.specs.declared.verdict.Verdict.{Verdict}
+use Rattle.asm_answers.specs.declared.verdict.Verdict.the-variants.{Clear, Broken}
 
 module _ (d : Deck) (old : List ℕ) where
   -- a refusal leaves all as it was
@@ -35,7 +35,7 @@ module _ (d : Deck) (old : List ℕ) where
   abbrev ending : Answer
   ending = finished (isComplete d) (limitsKept d) (length (d .table)) (length old)
 
-  pub faulty-answers : (f : Fault) → FirstFault d (d .cards) (Broken f) → Answers d (Faulty f) old old
+  pub faulty-answers : (f : Fault) → FirstFault d (d .cards) (Broken (f .number) (f .line)) → Answers d (Faulty f) old old
   unfolding judged
   faulty-answers f v = refuses (Faulty f) (faulty (f .number) (f .line)) refl (sym (v ending))
 
@@ -55,18 +55,16 @@ module _ (d : Deck) (old : List ℕ) where
       over-answers e = refuses OverLimit overLimit refl (ends ∙ if-yes _ _ _ complete ∙ if-no _ _ _ e)
 
       module _ (within : limitsKept d ≡ true) where
-        pub short-answers : length old < length (d .table) → Answers d ShortRoom old old
+        pub short-answers : leb (length (d .table)) (length old) ≡ false → Answers d ShortRoom old old
         unfolding finished
-        short-answers h =
-            refuses ShortRoom shortRoom refl
-            (ends ∙ if-yes _ _ _ complete ∙ if-yes _ _ _ within ∙ if-no _ _ _ (lt-leb (length (d .table)) (length old) h))
+        short-answers h = refuses ShortRoom shortRoom refl (ends ∙ if-yes _ _ _ complete ∙ if-yes _ _ _ within ∙ if-no _ _ _ h)
 
-        pub done-answers : length (d .table) ≤ length old → (n : ℕ) → n ≡ length (d .table) → (new : List ℕ) → new ≡ d .table ++ drop n old
-            → Answers d (Done n) old new
+        pub done-answers : leb (length (d .table)) (length old) ≡ true → (n : ℕ) → n ≡ length (d .table) → (new : List ℕ)
+            → new ≡ d .table ++ drop n old → Answers d (Done n) old new
         unfolding finished
         done-answers h n e new w =
             let j : judged d (length old) ≡ assembled n =
-            ends ∙ if-yes _ _ _ complete ∙ if-yes _ _ _ within ∙ if-yes _ _ _ (le-leb (length (d .table)) (length old) h) ∙ ap assembled (sym e) in
+            ends ∙ if-yes _ _ _ complete ∙ if-yes _ _ _ within ∙ if-yes _ _ _ h ∙ ap assembled (sym e) in
             record { answered = sym j; left = w ∙ sym (ap (λ (a : Answer). leftBy a (d .table) old) j) }
 
 -- The same in the terms of the code: t is the draft, v what the lines' pass has found, then the tests of 8 and 9.
@@ -80,10 +78,10 @@ module _ (text syms t old : List ℕ) (c : Collected) (p : Prepared text syms t 
   table-is : deckOf text .table ≡ t
   table-is = sym (ap (λ (d : Deck). d .table) (deck-is text syms t c p))
 
-  pub broken-ends : (f g : Fault) → v ≡ Broken f → g ≡ faultIn v → Answers (deckOf text) (Faulty g) old old
-  broken-ends f g e q =
+  pub broken-ends : (m l : ℕ) (g : Fault) → v ≡ Broken m l → g ≡ faultIn v → Answers (deckOf text) (Faulty g) old old
+  broken-ends m l g e q =
       subst (λ (x : Fault). Answers (deckOf text) (Faulty x) old old) (sym (q ∙ ap faultIn e))
-      (faulty-answers (deckOf text) old f (first-is (Broken f) e))
+      (faulty-answers (deckOf text) old (faultIn (Broken m l)) (first-is (Broken m l) e))
 
   module _ (clear : v ≡ Clear) (complete : Bool)
       (complete-by : complete ≡ (c .closed and sectionsOk t and allPlaced (symbolsIn syms (c .labels)) (symbolsIn syms (c .labels)))) where
@@ -100,15 +98,18 @@ module _ (text syms t old : List ℕ) (c : Collected) (p : Prepared text syms t 
       pub over-ends : within ≡ false → Answers (deckOf text) OverLimit old old
       over-ends e = over-answers (deckOf text) old (first-is Clear clear) (complete-of ∙ yes) (within-of ∙ e)
 
-      module _ (kept : within ≡ true) where
-        pub short-ends : length old < length t → Answers (deckOf text) ShortRoom old old
-        short-ends h =
-            short-answers (deckOf text) old (first-is Clear clear) (complete-of ∙ yes) (within-of ∙ kept) (rw table-is h)
+      module _ (kept : within ≡ true) (new : List ℕ) (fits : Bool) (placed : Placed t old new fits) where
+        pub short-ends : fits ≡ false → Answers (deckOf text) ShortRoom old new
+        short-ends e =
+            subst (λ (l : List ℕ). Answers (deckOf text) ShortRoom old l) (sym (placed .left ∙ if-no _ _ _ e))
+            (short-answers (deckOf text) old (first-is Clear clear) (complete-of ∙ yes) (within-of ∙ kept)
+            (rw table-is (sym (placed .fits) ∙ e)))
 
-        pub done-ends : length t ≤ length old → (new : List ℕ) → new ≡ t ++ drop (length t) old → Answers (deckOf text) (Done (length t)) old new
-        done-ends h new w =
-            done-answers (deckOf text) old (first-is Clear clear) (complete-of ∙ yes) (within-of ∙ kept) (rw table-is h) (length t)
-            (rw table-is refl) new (rw table-is w)
+        pub done-ends : fits ≡ true → Answers (deckOf text) (Done (length t)) old new
+        done-ends e =
+            done-answers (deckOf text) old (first-is Clear clear) (complete-of ∙ yes) (within-of ∙ kept)
+            (rw table-is (sym (placed .fits) ∙ e)) (length t) (rw table-is refl) new
+            (rw table-is (placed .left ∙ if-yes _ _ _ e))
 
 -- The whole text: its length first.
 

@@ -1,4 +1,3 @@
-pub mod Copies
 pub mod Lines
 pub mod Tables
 pub mod Endings

@@ -2,26 +2,26 @@
 -- Assumes nothing.
 use Prim.Native.Nat.{ℕ, _+_, _-_, _<_, _≤_}
 use mathlib.Core.Path.{_≡_, refl, sym, ap, subst, _∙_}
-use mathlib.Core.Bool.{Bool, true, false}
+use mathlib.Core.Bool.{true, false}
 use mathlib.Core.List.{List, [], _∷_}
 use native.Mathlib.Omega.{arith}
-use borrow.Author.Tests.{eq-eqb, ne-eqb}
-use lib.Dec.{eqb}
 use lib.ListN.{drop, drop-of-length-le, length, length-drop, take}
 use lib.Seq.{length-take-le}
 use Rattle.base.specs.Test.{if}
-use Rattle.shape_core.proofs.Tests.{if-no, if-yes}
 use Rattle.language.specs.Text.{lines}
 use Rattle.language.specs.Operation.{END, isAssembly}
 use Rattle.language.specs.Card.{Card, Reader, cardOf, cardsOf, holdsPlace, one, past, start, walk}
 use Rattle.language.specs.Image.{count}
 use Rattle.language.specs.Fault.{Deck, faultOf}
-use Rattle.language.specs.Answer.{Answer, faulty, firstFault, refused}
+use Rattle.language.specs.Answer.{Answer, firstFault}
 use Rattle.language.proofs.Places.{behind}
 use Rattle.asm_reader.specs.Line.{lineEnd}
 use Rattle.asm_reader.proofs.Laws.{walk-line}
 use Rattle.asm_cards.specs.Reading.{Counted}
 use Rattle.asm_cards.proofs.Counting.{counted-past, counted-start}
+use Rattle.asm_answers.specs.Verdicts.{VerdictOf, verdictView}
+use Rattle.asm_answers.specs.declared.verdict.Verdict.{Verdict}
+use Rattle.asm_answers.specs.declared.verdict.Verdict.the-variants.{Clear, Broken}
 use Rattle.assembler.specs.Judges.{PlaceBelow}
 
 -- the reader r stands at byte i: what it has counted, the places below and those to come, and no fault above
@@ -68,24 +68,24 @@ module _ (text : List ℕ) (d : Deck) (size : ℕ) (r : Reader) (i e : ℕ) (v :
   first-of : (a : Answer) → firstFault d (k ∷ below) a ≡ firstFault d (cardsOf text) a
   first-of a = sym (ap (λ (cs : List Card). firstFault d cs a) split) ∙ v .rest a
 
-  module _ (f : ℕ) (f-is : f ≡ faultOf d k) where
-    pub broken : (f ≡ 0 → ⊥) → (a : Answer) → refused (faulty f (k .spot .line)) ≡ firstFault d (cardsOf text) a
+  -- its verdict u, by its number f
+  module _ (f : ℕ) (f-is : f ≡ faultOf d k) (u : Verdict) (u-is : VerdictOf f (k .spot .line) u) where
+    told : (a : Answer) → verdictView u (firstFault d below a) ≡ firstFault d (cardsOf text) a
     unfolding firstFault
-    broken n a =
-        let z : eqb (faultOf d k) 0 ≡ false = rw (← f-is) (ne-eqb f 0 n) in
-        rw f-is (sym (if-no _ _ _ z) ∙ first-of a)
+    told a = (rw f-is at (u-is (firstFault d below a))) ∙ first-of a
 
-    goes-on : f ≡ 0 → (a : Answer) → firstFault d below a ≡ firstFault d (cardsOf text) a
-    unfolding firstFault
-    goes-on n a =
-        let z : eqb (faultOf d k) 0 ≡ true = rw (← f-is) (eq-eqb f 0 n) in
-        sym (if-yes _ _ _ z) ∙ first-of a
+    pub broken : (m l : ℕ) → u ≡ Broken m l → (a : Answer) → verdictView u a ≡ firstFault d (cardsOf text) a
+    broken m l e a =
+        ap (λ (x : Verdict). verdictView x a) e ∙ sym (ap (λ (x : Verdict). verdictView x (firstFault d below a)) e) ∙ told a
 
-    pub closes : f ≡ 0 → isAssembly END (k .operation) ≡ true → (a : Answer) → a ≡ firstFault d (cardsOf text) a
+    goes-on : u ≡ Clear → (a : Answer) → firstFault d below a ≡ firstFault d (cardsOf text) a
+    goes-on e a = sym (ap (λ (x : Verdict). verdictView x (firstFault d below a)) e) ∙ told a
+
+    pub closes : u ≡ Clear → isAssembly END (k .operation) ≡ true → (a : Answer) → a ≡ firstFault d (cardsOf text) a
     unfolding firstFault if
     closes n t a = rw t at (goes-on n a)
 
-    pub step : f ≡ 0 → isAssembly END (k .operation) ≡ false → e ≤ length text → Judging text d size (past k) (e + 1)
+    pub step : u ≡ Clear → isAssembly END (k .operation) ≡ false → e ≤ length text → Judging text d size (past k) (e + 1)
     unfolding past if
     step n t l =
         let m : length (k .line) ≡ e - i = rw line-is (length-take-le (e - i) (drop i text) (omega (arith, length-drop i text))) in

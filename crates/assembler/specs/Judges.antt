@@ -1,8 +1,8 @@
 -- Decks by their parts, what the passes over the lines ask, and the first fault.
 -- Assumes nothing.
-use Prim.Native.Nat.{ℕ, _+_, _<_, _≤_}
+use Prim.Native.Nat.{ℕ, _<_, _≤_}
 use mathlib.Core.Path.{_≡_}
-use mathlib.Core.Bool.{Bool, true}
+use mathlib.Core.Bool.{true}
 use mathlib.Core.List.{List}
 use lib.ListN.{length}
 use Rattle.shape_core.specs.Known.{Known}
@@ -11,13 +11,14 @@ use Rattle.language.specs.Card as Cards
 use Rattle.language.specs.Symbol.{Symbol}
 use Rattle.language.specs.Image.{count, image, symbolsOf}
 use Rattle.language.specs.Fault.{Deck}
-use Rattle.language.specs.Answer.{Answer, faulty, firstFault, refused}
+use Rattle.language.specs.Answer.{Answer, firstFault}
 use Rattle.asm_symbols.specs.Symbolic.{Symbolic}
 use Rattle.asm_collect.specs.Gathered.{CollectedOf}
 use Rattle.asm_collect.specs.declared.Collected.{Collected}
+use Rattle.asm_answers.specs.Verdicts.{verdictView}
+use Rattle.asm_answers.specs.declared.verdict.Verdict.{Verdict}
+use Rattle.asm_answers.specs.declared.verdict.Verdict.the-variants.{Clear, Broken}
 use Rattle.assembler.specs.declared.Fault.{Fault}
-use Rattle.assembler.specs.declared.judge.Verdict.{Verdict}
-use Rattle.assembler.specs.declared.judge.Verdict.the-variants.{Clear, Broken}
 
 abbrev pub deckFrom : List Cards.Card → List Symbol → List ℕ → Deck
 deckFrom cs all t = record { cards = cs; symbols = all; table = t }
@@ -30,14 +31,9 @@ OfDeck f all t r = (cs : List Cards.Card) → r ≡ f (deckFrom cs all t)
 abbrev pub PlaceBelow : ℕ → Cards.Card → Type 0
 PlaceBelow size c = Cards.holdsPlace c ≡ true → c .spot .place < size
 
--- what follows where there is no fault, else the fault
-abbrev pub verdictView : Verdict → Answer → Answer
-verdictView Clear a = a
-verdictView (Broken f) a = refused (faulty (f .number) (f .line))
-
 abbrev pub faultIn : Verdict → Fault
 faultIn Clear = record { number = 0; line = 0 }
-faultIn (Broken f) = f
+faultIn (Broken n l) = record { number = n; line = l }
 
 -- v is the first fault of some cards
 abbrev pub FirstFault : Deck → List Cards.Card → Verdict → Type 0

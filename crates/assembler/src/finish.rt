@@ -1,8 +1,8 @@
-// What follows the lines' faults: 8, 9 and 10 in this order, then the table is copied [S Numbers the host sees].
+// What follows the lines' faults: 8, 9 and 10 in this order, then the table is placed [S Numbers the host sees].
 ghost use mathlib.Core.Path.{_≡_};
-ghost use mathlib.Core.List.{_++_, map};
+ghost use mathlib.Core.List.{map};
 ghost use Prim.Native.Nat.{_+_, _≤_};
-ghost use lib.ListN.{drop, length};
+ghost use lib.ListN.{length};
 ghost use Rattle.base.specs.Test.{_and_};
 ghost use Rattle.ops.specs.Ops.{rows, cellsOf};
 ghost use Rattle.rules.specs.Check.{sectionsOk};
@@ -14,9 +14,10 @@ ghost use Rattle.asm_symbols.specs.Symbolic.{Symbolic};
 ghost use Rattle.assembler.specs.Answers.{Answers};
 ghost use Rattle.assembler.specs.Judges.{Prepared};
 use crate::Assembled;
-use crate::judge::Verdict;
 use crate::judge::fault_in;
 use crate::judge::judge;
+use asm_answers::room::is_placed;
+use asm_answers::verdict::Verdict;
 use asm_collect::Collected;
 use asm_shapes::classes::classes_of;
 use asm_symbols::meanings::all_placed;
@@ -60,18 +61,6 @@ fn is_within(c: Collected) -> bool
     sum(c.constants, c.workings) <= Machine::MAX_WORDS
 }
 
-// The words of `from` stand at the front of `to`.
-fn copy(from: &[u32], to: &mut [u32])
-    requires { ⌜ length (now from) ≤ length (now to) ⌝ }
-    ensures { λ r. ⌜ now (to .exit) ≡ now (from .entry) ++ drop (length (now (from .entry))) (now (to .entry)) ⌝ }
-{
-    let mut i: usize = 0;
-    while i < from.len() {
-        to[i] = from[i];
-        i += 1;
-    }
-}
-
 // The answer, given what is collected and the draft of the table. The lent table is written last.
 pub fn finish(
     list: &Operations,
@@ -100,9 +89,8 @@ pub fn finish(
     if !is_within(c) {
         return Assembled::OverLimit;
     }
-    if table.len() < draft.len() {
+    if !is_placed(draft, table) {
         return Assembled::ShortRoom;
     }
-    copy(draft, table);
     Assembled::Done(draft.len() as u32)
 }

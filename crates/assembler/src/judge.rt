@@ -10,6 +10,8 @@ ghost use Rattle.asm_symbols.specs.Symbolic.{Symbolic};
 ghost use Rattle.assembler.specs.Judges.{FirstFault, Judged, OfDeck, PlaceBelow, deckFrom, faultIn};
 use crate::Fault;
 use crate::shape::shape_fault;
+use asm_answers::verdict::Verdict;
+use asm_answers::verdict::verdict_of;
 use asm_cards::card_of;
 use asm_cards::is_closing;
 use asm_cards::past;
@@ -19,19 +21,13 @@ use asm_types::Card;
 use asm_types::Reader;
 use ops::table::Operations;
 
-// No line has a fault, or the first that has one.
-pub enum Verdict {
-    Clear,
-    Broken(Fault),
-}
-
 // The fault that a verdict names: number 0 where there is none.
 pub fn fault_in(v: Verdict) -> Fault
     ensures { λ r. ⌜ r ≡ faultIn v ⌝ }
 {
     match v {
         Verdict::Clear => Fault { number: 0, line: 0 },
-        Verdict::Broken(f) => f,
+        Verdict::Broken(number, line) => Fault { number, line },
     }
 }
 
@@ -90,12 +86,10 @@ pub fn judge(
             body,
             size,
         );
-        if f != 0 {
-            return Verdict::Broken(Fault {
-                number: f,
-                line: c.spot.line,
-            });
-        }
+        let v = verdict_of(f, c.spot.line);
+        let Verdict::Clear = v else {
+            return v;
+        };
         if is_closing(c) {
             return Verdict::Clear;
         }

@@ -270,7 +270,7 @@ pub fn igt(t: &[u32], b: usize, z: &[u32; 16]) -> usize
     requires { ⌜ Entry isPlace readable going (now t) b (now z) ⌝ }
     ensures { λ r. ⌜ AnyMemory r (now (z .entry)) (now (t .entry)) b (now (z .entry)) Op.IGT ⌝ }
 {
-    first_if(t, b, words::positive(z[Machine::IA]))
+    first_if(t, b, integers::positive(z[Machine::IA]))
 }
 
 // [M 4.14] ILE: to operand one if IA is not above 0
@@ -278,7 +278,7 @@ pub fn ile(t: &[u32], b: usize, z: &[u32; 16]) -> usize
     requires { ⌜ Entry isPlace readable going (now t) b (now z) ⌝ }
     ensures { λ r. ⌜ AnyMemory r (now (z .entry)) (now (t .entry)) b (now (z .entry)) Op.ILE ⌝ }
 {
-    first_if(t, b, !words::positive(z[Machine::IA]))
+    first_if(t, b, !integers::positive(z[Machine::IA]))
 }
 
 // [M 4.15] ILT: to operand one if IA is below 0

@@ -28,7 +28,8 @@ use Rattle.exec_core.specs.Views.{operandAt}
 use Rattle.exec_core.specs.Seen.{seen, stepped}
 use Rattle.exec_core.proofs.Laws.{toward-suc}
 use Rattle.exec_control.specs.Shows.{Loads}
-use Rattle.exec_control.proofs.Places.{header, jumps-or, register-at}
+use Rattle.exec_calls.proofs.Places.{header}
+use Rattle.exec_control.proofs.Jumps.{jumps-or, register-at}
 
 module _ (t : List ℕ) (v : ℕ) where
   -- no ENT has the value

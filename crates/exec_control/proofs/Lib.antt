@@ -1,7 +1,5 @@
 pub mod Takes
-pub mod Places
+pub mod Jumps
 pub mod Entered
 pub mod Switched
-pub mod Linked
-pub mod Called
 pub mod Ready

@@ -16,10 +16,11 @@ use Rattle.rules.specs.State.{Link, memoryFits, waitOk}
 use Rattle.rules.proofs.Facts.{executable-in-table}
 use Rattle.rules.proofs.Steps.{Parts, parts}
 use Rattle.exec_core.specs.Seen.{Running, openLinks, placeOf, stateBy}
-use Rattle.exec_control.specs.Stands.{Calls, Few, Open, Roomy, Stands}
-use Rattle.exec_control.specs.Shows.{linksAfter}
-use Rattle.exec_control.proofs.Called.{calls-of}
-use Rattle.exec_control.proofs.Places.{place-long}
+use Rattle.exec_calls.specs.Shows.{linksAfter}
+use Rattle.exec_calls.specs.Stands.{Calls, Few, Open, Stands}
+use Rattle.exec_calls.proofs.Called.{calls-of}
+use Rattle.exec_calls.proofs.Places.{place-long}
+use Rattle.exec_control.specs.Roomy.{Roomy}
 
 memory-roomy : (t : List ℕ) (k : ℕ) → Ok (memoryFits t k) → Roomy k
 unfolding memoryFits

@@ -27,9 +27,10 @@ use Rattle.exec_core.specs.Entry.{going, inRegister, readable}
 use Rattle.exec_core.specs.Seen.{placeOf, seen, stateBy}
 use Rattle.exec_core.specs.Views.{operandAt, toward, wayOf}
 use Rattle.exec_core.proofs.Laws.{fetch-register, moved-register}
-use Rattle.exec_control.specs.Stands.{Stands}
+use Rattle.exec_calls.specs.Stands.{Stands}
 use Rattle.exec_control.specs.Shows.{AnyMemory}
-use Rattle.exec_control.proofs.Places.{entry-bare, jumps-or, place-long, register-at, third-at, third-way}
+use Rattle.exec_calls.proofs.Places.{place-long}
+use Rattle.exec_control.proofs.Jumps.{entry-bare, jumps-or, register-at, third-at, third-way}
 use Rattle.exec_control.proofs.Takes.{bsw-takes}
 
 -- the walk of the BSW at p for the value v stands at the offset i

@@ -22,10 +22,6 @@ pub lei-takes : Ok (takes inRegister readable going 108 rows)
 unfolding Ok takes formatTakes allTake readable isPlace inRegister among member rows if _and_ _or_
 lei-takes = tt
 
-pub sss-takes : Ok (takes readable readable going 121 rows)
-unfolding Ok takes formatTakes allTake readable isPlace inRegister among member rows if _and_ _or_
-sss-takes = tt
-
 pub jmg-takes : Ok (takes isPlace readable going 123 rows)
 unfolding Ok takes formatTakes allTake readable isPlace inRegister among member rows if _and_ _or_
 jmg-takes = tt

@@ -1,2 +1,2 @@
-pub mod Stands
+pub mod Roomy
 pub mod Shows

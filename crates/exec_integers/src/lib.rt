@@ -1,23 +1,24 @@
 // Integers: LDI, ADI, MLI, SBI, DVI, RMI, STI, NGI, MTI, MFI, CVM, CVD. The accumulator IA and the overflow flag are words of z.
 // Each answers 64 + the offset of the next entry, or 22, 23 or 29, which leave registers and memory as they were.
 ghost use mathlib.Core.Path.{_≡_};
-ghost use mathlib.Core.Bool.{false};
-ghost use Prim.Native.Nat.{_+_, _-_, _≤_};
-ghost use lib.Dec.{ltb, leb};
-ghost use lib.IntN.{pos, negℤ, _-ℤ_, _*ℤ_};
+ghost use Prim.Native.Nat.{_+_, _≤_};
+ghost use lib.Dec.{leb};
 ghost use lib.ListN.{length};
-ghost use lib.Signed.{remZ};
-ghost use Rattle.base.specs.Test.{if, _or_};
-ghost use Rattle.ops.specs.Machine.{cfpM, chD0, chD9, maxInstrs};
+ghost use Rattle.base.specs.Test.{if};
+ghost use Rattle.ops.specs.Machine.{cfpM, maxInstrs};
 ghost use Rattle.ops.specs.Ops as Op;
-ghost use Rattle.words.specs.Words.{signed, low, fits, positive};
 ghost use Rattle.rules.specs.Table.{entryAt};
 ghost use Rattle.rules.specs.Operand.{fetchOf};
 ghost use Rattle.rules.specs.Effect.{shown};
-ghost use Rattle.rules.specs.Exec.{accumulated};
 ghost use Rattle.exec_core.specs.Views.{does, branches, wayOf, fetchedOf, operandAt};
 ghost use Rattle.exec_core.specs.Entry.{Entry, readable, writable, isPlace, going};
-ghost use Rattle.exec_integers.specs.Integers.{steady, Divides, AnyMem};
+ghost use Rattle.exec_integers.specs.Integers.{steady, AnyMem};
+use accumulator::accumulate;
+use accumulator::divide;
+use accumulator::in_range_or;
+use accumulator::last_digit;
+use accumulator::no_digit;
+use accumulator::shifted;
 use exec_core::Answer;
 use exec_core::Fetched;
 use exec_core::operands::act;
@@ -35,33 +36,6 @@ fn load(t: &[u32], b: usize, m: &[u32], z: &[u32; 16]) -> Fetched
     ensures { λ r. ⌜ fetchedOf r ≡ fetchOf (now (z .entry)) (now (m .entry)) (operandAt (now (t .entry)) (b + 1)) ⌝ }
 {
     fetch(m, z, operand(t, b + 1))
-}
-
-// 0 for a number that is the value of a word, else 1.
-fn beyond(n: i64) -> u32
-    ensures { λ r. ⌜ r ≡ if (fits n) 0 1 ⌝ }
-{
-    if words::fits(n) { 0 } else { 1 }
-}
-
-// IA takes the low 32 bits of n; the flag says whether n is out of range.
-fn accumulate(z: &mut [u32; 16], n: i64)
-    ensures { λ _. ⌜ now (z .exit) ≡ accumulated n (now (z .entry)) ⌝ }
-{
-    z[Machine::IA] = words::low(n);
-    z[Machine::FLAG] = beyond(n);
-}
-
-// IA takes n, a result of its division by v, and the flag is off; where v is 0 the flag is on and IA stays.
-fn divide(z: &mut [u32; 16], v: u32, n: i64)
-    ensures { λ _. ⌜ Divides n (now (z .entry)) v (now (z .exit)) ⌝ }
-{
-    if v == 0 {
-        z[Machine::FLAG] = 1;
-    } else {
-        z[Machine::IA] = words::low(n);
-        z[Machine::FLAG] = 0;
-    }
 }
 
 // [M 4.1] LDI: IA := operand one
@@ -86,7 +60,7 @@ pub fn adi(t: &[u32], b: usize, m: &[u32], z: &mut [u32; 16]) -> usize
     let Fetched::Got(v) = f else {
         return Answer::BAD_ADDRESS;
     };
-    let n = words::sum(z[Machine::IA], v);
+    let n = integers::sum(z[Machine::IA], v);
     accumulate(z, n);
     b + Answer::ON
 }
@@ -100,7 +74,7 @@ pub fn mli(t: &[u32], b: usize, m: &[u32], z: &mut [u32; 16]) -> usize
     let Fetched::Got(v) = f else {
         return Answer::BAD_ADDRESS;
     };
-    let n = words::product(z[Machine::IA], v);
+    let n = integers::product(z[Machine::IA], v);
     accumulate(z, n);
     b + Answer::ON
 }
@@ -114,7 +88,7 @@ pub fn sbi(t: &[u32], b: usize, m: &[u32], z: &mut [u32; 16]) -> usize
     let Fetched::Got(v) = f else {
         return Answer::BAD_ADDRESS;
     };
-    let n = words::difference(z[Machine::IA], v);
+    let n = integers::difference(z[Machine::IA], v);
     accumulate(z, n);
     b + Answer::ON
 }
@@ -128,7 +102,7 @@ pub fn dvi(t: &[u32], b: usize, m: &[u32], z: &mut [u32; 16]) -> usize
     let Fetched::Got(v) = f else {
         return Answer::BAD_ADDRESS;
     };
-    let n = words::quotient(z[Machine::IA], v);
+    let n = integers::quotient(z[Machine::IA], v);
     divide(z, v, n);
     b + Answer::ON
 }
@@ -142,7 +116,7 @@ pub fn rmi(t: &[u32], b: usize, m: &[u32], z: &mut [u32; 16]) -> usize
     let Fetched::Got(v) = f else {
         return Answer::BAD_ADDRESS;
     };
-    let n = words::remainder(z[Machine::IA], v);
+    let n = integers::remainder(z[Machine::IA], v);
     divide(z, v, n);
     b + Answer::ON
 }
@@ -162,7 +136,7 @@ pub fn ngi(t: &[u32], b: usize, z: &mut [u32; 16]) -> usize
     requires { ⌜ Entry readable readable going (now t) b (now z) ⌝ }
     ensures { λ r. ⌜ AnyMem (shown r (now (z .exit))) (λ m. does (now (t .entry)) b 0 0 (now (z .entry)) m Op.NGI) ⌝ }
 {
-    let n = words::negation(z[Machine::IA]);
+    let n = integers::negation(z[Machine::IA]);
     accumulate(z, n);
     b + Answer::ON
 }
@@ -200,13 +174,6 @@ pub fn mfi(t: &[u32], b: usize, m: &mut [u32], z: &mut [u32; 16], c: usize) -> u
     store(m, z, c, one, v, Machine::IA, i, on)
 }
 
-// MFI's word: i in range, else w.
-fn in_range_or(i: u32, w: u32) -> u32
-    ensures { λ r. ⌜ r ≡ if (leb i cfpM) i w ⌝ }
-{
-    if i <= Machine::CFP_M { i } else { w }
-}
-
 // MFI's answer: the next entry for i in range, else operand two's place where there is one.
 fn after_range(t: &[u32], b: usize, i: u32) -> usize
     requires { ⌜ (b + 8 ≤ length (now t)) × (b ≤ entryAt maxInstrs) ⌝ }
@@ -232,34 +199,13 @@ pub fn cvm(t: &[u32], b: usize, z: &mut [u32; 16]) -> usize
         return Answer::BAD_DIGIT;
     }
     let n = shifted(a, d);
-    if words::fits(n) {
-        z[Machine::IA] = words::low(n);
+    if integers::fits(n) {
+        z[Machine::IA] = integers::low(n);
         z[Machine::WB] = 0;
         return b + Answer::ON;
     }
     z[Machine::WB] = 0;
     to_first(t, b)
-}
-
-// Whether CVM ends by 29: the word a is above 0, or d is no digit.
-fn no_digit(a: u32, d: u32) -> bool
-    ensures { λ r. ⌜ r ≡ (positive a or ltb d chD0 or ltb chD9 d) ⌝ }
-{
-    if words::positive(a) {
-        return true;
-    }
-    if d < Machine::CH_D0 {
-        return true;
-    }
-    Machine::CH_D9 < d
-}
-
-// Ten times the word's signed value, less the digit d.
-fn shifted(a: u32, d: u32) -> i64
-    requires { ⌜ chD0 ≤ d ⌝ }
-    ensures { λ r. ⌜ r ≡ signed a *ℤ pos 10 -ℤ pos (d - chD0) ⌝ }
-{
-    words::product(a, 10) - (d - Machine::CH_D0) as i64
 }
 
 // [M 8.12] CVD: WA := the digit of IA's remainder by ten, IA := IA / 10, cut toward zero
@@ -268,19 +214,10 @@ pub fn cvd(t: &[u32], b: usize, z: &mut [u32; 16]) -> usize
     ensures { λ r. ⌜ AnyMem (shown r (now (z .exit))) (λ m. does (now (t .entry)) b 0 0 (now (z .entry)) m Op.CVD) ⌝ }
 {
     let a = z[Machine::IA];
-    if words::positive(a) {
+    if integers::positive(a) {
         return Answer::BAD_DIGIT;
     }
-    z[Machine::IA] = words::low(words::quotient(a, 10));
+    z[Machine::IA] = integers::low(integers::quotient(a, 10));
     z[Machine::WA] = last_digit(a);
     b + Answer::ON
-}
-
-// The last decimal digit of a word whose signed value is not above 0, as a character.
-fn last_digit(a: u32) -> u32
-    requires { ⌜ positive a ≡ false ⌝ }
-    ensures { λ r. ⌜ r ≡ chD0 + low (negℤ (remZ (signed a) (pos 10))) ⌝ }
-{
-    let x = words::low(words::remainder(a, 10));
-    Machine::CH_D0 + words::low(words::negation(x))
 }

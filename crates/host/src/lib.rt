@@ -8,26 +8,14 @@ ghost use lib.ListN.{length};
 ghost use Rattle.host_claims.specs.Answer.{stateNumber, tableNumber};
 ghost use Rattle.rules.specs.Run.{resumes, runs};
 ghost use Rattle.host_claims.specs.Freezing.{HostRestores, HostWrites};
-ghost use Rattle.host_claims.specs.Running.{HostResumes, HostRuns, HostStarts, unreadNumber};
-use host_numbers::BAD_STATE;
-use host_numbers::BAD_TABLE;
-use host_numbers::PASSED;
-use host_numbers::UPPER;
-use host_numbers::number_of;
-use host_numbers::number_written;
-use lent::WORDS;
-use lent::put_state;
-use lent::state_of;
-use lent::words_ok;
-use machine::run;
-use resuming::answers::number as number_ran;
-use resuming::resume;
-use snapshot::waking::restore_checked;
-use snapshot::writing::write_checked;
-use starting::number as number_started;
-use starting::start;
-use states::passing::state_ok;
-use tables::check_table;
+ghost use Rattle.host_claims.specs.Running.{HostResumes, HostRuns, HostStarts};
+use host_run::run_words;
+use host_words::restore_words;
+use host_words::resume_words;
+use host_words::start_words;
+use host_words::state_number;
+use host_words::table_number;
+use host_words::write_words;
 
 pub mod cards;
 
@@ -36,10 +24,7 @@ pub mod cards;
 pub extern "C" fn torzimlak_check_table(table: &[u32]) -> u32
     ensures { λ r. ⌜ r ≡ tableNumber (now (table .entry)) ⌝ }
 {
-    if check_table(table) {
-        return PASSED;
-    }
-    BAD_TABLE
+    table_number(table)
 }
 
 // 0: a state of these words, with memory of len words, may be run on the table. 30: the table does not pass its check. 31: the words
@@ -48,27 +33,7 @@ pub extern "C" fn torzimlak_check_table(table: &[u32]) -> u32
 pub extern "C" fn torzimlak_check_state(table: &[u32], len: usize, state: &[u32]) -> u32
     ensures { λ r. ⌜ ((mem : List ℕ) → length mem ≡ len → r ≡ stateNumber (now (table .entry)) (now (state .entry)) mem) ⌝ }
 {
-    if !check_table(table) {
-        return BAD_TABLE;
-    }
-    if !words_ok(state) {
-        return BAD_STATE;
-    }
-    let s = state_of(state);
-    if state_ok(table, len, s) {
-        return PASSED;
-    }
-    BAD_STATE
-}
-
-// 30 where the table does not pass its check, else 31: the number of words that are no state.
-fn unread(table: &[u32]) -> u32
-    ensures { λ r. ⌜ r ≡ unreadNumber (now (table .entry)) ⌝ }
-{
-    if check_table(table) {
-        return BAD_STATE;
-    }
-    BAD_TABLE
+    state_number(table, len, state)
 }
 
 // 0: the program stands at the start of section 4, its words, the host's fresh words and all other words as lent in memory, its 267 words
@@ -84,17 +49,7 @@ pub extern "C" fn torzimlak_start(
 ) -> u32
     ensures { λ r. ⌜ HostStarts (now (table .entry)) (now (memory .entry)) (now (fresh .entry)) argument (now (state .entry)) r (now (memory .exit)) (now (state .exit)) ⌝ }
 {
-    if state.len() < WORDS {
-        return unread(table);
-    }
-    let r = start(table, memory, fresh, argument);
-    let a = r.answer;
-    let n = number_started(a);
-    if n == PASSED {
-        let s = r.state;
-        put_state(state, s);
-    }
-    n
+    start_words(table, memory, fresh, argument, state)
 }
 
 // Upper half 20 to 29: the ending of a run of at most budget steps; the lower half is how many it took. Upper half 30: the table does not
@@ -108,20 +63,7 @@ pub extern "C" fn torzimlak_run(
 ) -> u64
     ensures { λ r. ⌜ HostRuns (now (table .entry)) (now (state .entry)) (now (memory .entry)) (runs budget) r (now (memory .exit)) (now (state .exit)) ⌝ }
 {
-    if !words_ok(state) {
-        return UPPER * unread(table) as u64;
-    }
-    let lent = state_of(state);
-    let r = run(table, memory, lent, budget);
-    let a = r.answer;
-    let n = number_ran(a);
-    let steps = r.steps;
-    let told = UPPER * n as u64 + steps as u64;
-    if n < BAD_TABLE {
-        let s = r.state;
-        put_state(state, s);
-    }
-    told
+    run_words(table, memory, state, budget)
 }
 
 // The host's answer to the call that the state waits at: an exit, or 0 for no number. 0: the state goes on from there. 26: the exit's PPM
@@ -136,18 +78,7 @@ pub extern "C" fn torzimlak_resume(
 ) -> u32
     ensures { λ r. ⌜ HostResumes (now (table .entry)) (now (state .entry)) (now (memory .entry)) (resumes exit) r (now (state .exit)) ⌝ }
 {
-    if !words_ok(state) {
-        return unread(table);
-    }
-    let lent = state_of(state);
-    let r = resume(table, memory, lent, exit);
-    let a = r.answer;
-    let n = number_ran(a);
-    if n < BAD_TABLE {
-        let s = r.state;
-        put_state(state, s);
-    }
-    n
+    resume_words(table, memory, state, exit)
 }
 
 // Upper half 0, lower half L: the machine's file of L bytes stands at the front of the room. Upper half 30: the table does not pass its
@@ -162,15 +93,7 @@ pub extern "C" fn torzimlak_write(
 ) -> u64
     ensures { λ r. ⌜ HostWrites (now (table .entry)) (now (state .entry)) (now (memory .entry)) build (now (file .entry)) r (now (file .exit)) ⌝ }
 {
-    if !check_table(table) {
-        return UPPER * BAD_TABLE as u64;
-    }
-    if !words_ok(state) {
-        return UPPER * BAD_STATE as u64;
-    }
-    let s = state_of(state);
-    let w = write_checked(table, memory, s, build, file);
-    number_written(w)
+    write_words(table, memory, state, build, file)
 }
 
 // 0: the machine at the end of the file is woken, its memory and its 267 words of state in what is lent, with the host's fresh words.
@@ -187,18 +110,5 @@ pub extern "C" fn torzimlak_restore(
 ) -> u32
     ensures { λ r. ⌜ HostRestores (now (table .entry)) (now (file .entry)) build (now (fresh .entry)) (now (memory .entry)) (now (state .entry)) r (now (memory .exit)) (now (state .exit)) ⌝ }
 {
-    if !check_table(table) {
-        return BAD_TABLE;
-    }
-    if state.len() < WORDS {
-        return BAD_STATE;
-    }
-    let r = restore_checked(table, file, build, fresh, memory);
-    let a = r.answer;
-    let number = number_of(a);
-    if number == PASSED {
-        let s = r.state;
-        put_state(state, s);
-    }
-    number
+    restore_words(table, file, build, fresh, memory, state)
 }

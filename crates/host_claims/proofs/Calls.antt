@@ -1,7 +1,7 @@
 -- Demand 3 over the functions that a host calls, proved from their promises and from demand 3 of the rules.
 -- Assumes nothing.
 use Prim.Native.Nat.{ℕ, _+_, _/_, _%_, _^_, _<_, _≤_}
-use mathlib.Core.Path.{_≡_, refl, sym, ap, subst, _∙_}
+use mathlib.Core.Path.{_≡_, refl, sym, ap, _∙_}
 use mathlib.Core.List.{List, [], _∷_}
 use native.Mathlib.Omega.{arith}
 use lib.ListN.{drop}
@@ -11,27 +11,21 @@ use Rattle.base.specs.Lists.{_at_}
 use Rattle.base.proofs.Bool.{and-i, and-r, eq-ok, le-ok, ok-le, test-true}
 use Rattle.ops.specs.Machine.{maxBudget}
 use Rattle.rules.specs.Number.{Refusal, notResumable, outcomeNumber, overBudget, upper}
-use Rattle.rules.specs.Check.{tableOk}
 use Rattle.rules.specs.Claim.{CallClaim, Sound, ending, resuming}
 use Rattle.rules.specs.Run as Run
 use Rattle.rules.specs.Run.{Call, answer, ended, left, nowhere, refused, resumes, runs, stepsIn}
 use Rattle.rules.specs.State as Rules
 use Rattle.rules.specs.State.{Link, stateOk}
 use Rattle.rules.proofs.Files.{state-limits}
-use Rattle.rules.proofs.Runs.{call-ok}
+use Rattle.rules.proofs.Runs.{call-ok, call-passes, ended-passes}
 use Rattle.rules.proofs.Steps.{parts, sound}
 use Rattle.states.specs.Views.{codeOf}
 use Rattle.lent.specs.Lent.{lawful, stateFrom}
-use Rattle.host_claims.specs.Running.{callNumber, callWords, wordsLeft}
+use Rattle.host_claims.specs.Running.{callNumber, wordsLeft}
 use Rattle.host_claims.specs.Calls.{AllPromised, HostCallClaim, HostCallClaims, HostCalls, Made, Promised, listed, memoryWritten, refusalOf, toldBy, wordsWritten}
 use Rattle.host_claims.proofs.Answered.{ResumeAnswer, RunAnswer, off, over, resume-answer, run-answer, taken, within}
 use Rattle.host_claims.proofs.Checked.{Checked, checked-number, lawful-length, lawful-words, links-taken, number-checked, writes-state, written-checked}
-use Rattle.host_claims.proofs.Machines.{full-links, left-passes}
-
--- words that are a state on a table that passes: what is told of them is what the rules answer
-pub words-answer : (t ws mem : List ℕ) (c : Call) → Ok (tableOk t) → Ok (lawful ws) → callWords t ws mem c ≡ answer t (stateFrom ws mem) c
-unfolding callWords if
-words-answer t ws mem c ok h = rw (test-true _ ok, test-true _ h)
+use Rattle.host_claims.proofs.Machines.{full-links, words-answer}
 
 -- the words left are a state
 left-lawful : (t ws mem : List ℕ) (c : Call) (words : List ℕ) → Checked t ws mem → words ≡ wordsLeft (answer t (stateFrom ws mem) c) ws → Ok (lawful words)
@@ -41,7 +35,7 @@ left-lawful t ws mem c words h = go (answer t (stateFrom ws mem) c) refl
     go (refused e) p w = rw w (h .is-state)
     go nowhere p w = rw w (h .is-state)
     go (ended o k s) p w =
-        let fine : Ok (stateOk t s) = subst (λ (a : Run.Answer). Ok (stateOk t (left (stateFrom ws mem) a))) p (left-passes t (stateFrom ws mem) c (h .table) (h .state)) in
+        let fine : Ok (stateOk t s) = ended-passes t (stateFrom ws mem) c o k s (h .table) (h .state) p in
         rw w (lawful-words (codeOf s) (drop 267 ws) (full-links s (state-limits t s fine .few)))
 
 -- The numbers.
@@ -96,10 +90,10 @@ module _ (t ws mem : List ℕ) (h : Checked t ws mem) where
 
   told : (c : Call) (m : Made) → Promised t ws mem c m → Told c m
   told (runs k) m p =
-      let u = words-answer t ws mem (runs k) (h .table) (h .is-state) in
+      let u = words-answer t ws mem (runs k) (test-true _ (h .is-state)) in
       record { number = run-listed k (m .number) (p .number ∙ rw u); told = p .number ∙ rw u; state = p .state ∙ rw u; machine = p .machine ∙ rw u }
   told (resumes x) m p =
-      let u = words-answer t ws mem (resumes x) (h .table) (h .is-state) in
+      let u = words-answer t ws mem (resumes x) (test-true _ (h .is-state)) in
       record {
         number = resume-listed x (m .number) (p .0 .number ∙ rw u);
         told = p .0 .number ∙ rw u;
@@ -113,7 +107,7 @@ module _ (t ws mem : List ℕ) (h : Checked t ws mem) where
       record {
         table = h .table;
         is-state = left-lawful t ws mem (m .call) (m .words) h (k .state);
-        state = rw (k .machine) (left-passes t (stateFrom ws mem) (m .call) (h .table) (h .state));
+        state = rw (k .machine) (call-passes t (stateFrom ws mem) (m .call) (h .table) (h .state));
       }
 
   -- a refused call leaves all as it was

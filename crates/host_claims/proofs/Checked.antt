@@ -16,14 +16,13 @@ use Rattle.rules.specs.Run.{admitted}
 use Rattle.rules.specs.State as Rules
 use Rattle.rules.specs.State.{stateOk}
 use Rattle.rules.proofs.Demand.{all-length}
-use Rattle.rules.proofs.Files.{state-limits}
+use Rattle.rules.proofs.Files.{bit-le, state-limits}
 use Rattle.rules.proofs.Steps.{parts, whole}
 use Rattle.states.specs.declared.State.{State}
 use Rattle.states.proofs.Front.{links-front, links-length}
 use Rattle.lent.specs.Lent.{lawful, linksLent, stateFrom, wordsFrom}
 use Rattle.host_claims.specs.Answer.{admittedWords, stateNumber}
 use Rattle.host_claims.specs.Calls.{memoryWritten, registerAt, wordsWritten}
-use Rattle.host_claims.proofs.Machines.{bit-le}
 
 -- what the answer 0 says
 pub record Checked (t ws mem : List ℕ) : Type 0 where

@@ -1,3 +1,4 @@
+pub mod Known
 pub mod Machines
 pub mod Checked
 pub mod Answered

@@ -1,7 +1,7 @@
 -- The words that a call leaves are the machine that the rules leave: of start, run, resume and restore.
 -- Assumes nothing.
 use Prim.Native.Nat.{ℕ, _+_, _-_, _≤_}
-use mathlib.Core.Path.{_≡_, refl, ap, subst, _∙_}
+use mathlib.Core.Path.{_≡_, refl, sym, ap, subst, _∙_}
 use mathlib.Core.Bool.{Bool, true, false}
 use mathlib.Core.List.{List, _++_}
 use native.Mathlib.Omega.{arith}
@@ -11,7 +11,7 @@ use lib.Seq.{take-at}
 use borrow.Author.Tests.{not-false}
 use Rattle.base.specs.Test.{if, Ok}
 use Rattle.base.specs.Lists.{_at_}
-use Rattle.base.proofs.Bool.{by-if, true-ok}
+use Rattle.base.proofs.Bool.{by-if, true-ok, unless-no, unless-yes}
 use Rattle.rules.specs.Number.{Outcome, Refusal, badState, badTable}
 use Rattle.rules.specs.Check.{tableOk}
 use Rattle.rules.specs.Control.{stateAt}
@@ -24,12 +24,11 @@ use Rattle.rules.specs.State.{stateOk}
 use Rattle.rules.specs.Run as Run
 use Rattle.rules.specs.Run.{Call, answer, ended, left, nowhere, refused, resumes, verdict}
 use Rattle.rules.proofs.Canonical.{BegunIs, Clean, WokenIs, answer-clean, canonical-own, own-canonical, restore-clean, started-clean}
-use Rattle.rules.proofs.Files.{state-limits}
+use Rattle.rules.proofs.Files.{bit-le, eqb-bit, state-limits}
 use Rattle.rules.proofs.Restores.{restore-wakes}
-use Rattle.rules.proofs.Runs.{call-ok, resume-keeps}
+use Rattle.rules.proofs.Runs.{ended-passes, resume-keeps}
 use Rattle.rules.proofs.Snapshots.{restored-passes}
 use Rattle.rules.proofs.Starts.{started-passes}
-use Rattle.rules.proofs.Steps.{parts, sound}
 use Rattle.states.specs.declared.State.{State}
 use Rattle.states.specs.Views.{codeOf, linksOf, stateOf}
 use Rattle.states.proofs.Coded.{code-view}
@@ -38,11 +37,6 @@ use Rattle.host_claims.specs.Running.{callWords, startWords, wordsBegun,
 use Rattle.host_claims.specs.Freezing.{restoreWords, wordsAfter}
 
 -- Words and machines.
-
--- a test as a word and back
-bit-back : (b : Bool) → eqb (bit b) 1 ≡ b
-bit-back true = refl
-bit-back false = refl
 
 built : State → List ℕ → Bool → Bool → List ℕ → Rules.State
 built s mem flag waiting ls =
@@ -57,8 +51,8 @@ built s mem flag waiting ls =
 pub stateFrom-words : (s : State) (rest mem : List ℕ) → length (s .links) ≡ 256 → stateFrom (wordsFrom s ++ rest) mem ≡ stateOf s mem
 unfolding built
 stateFrom-words s rest mem n =
-    ap (λ (b : Bool). built s mem b (eqb (bit (s .waiting)) 1) (take 256 (s .links ++ rest))) (bit-back (s .flag))
-    ∙ ap (λ (b : Bool). built s mem (s .flag) b (take 256 (s .links ++ rest))) (bit-back (s .waiting))
+    ap (λ (b : Bool). built s mem b (eqb (bit (s .waiting)) 1) (take 256 (s .links ++ rest))) (eqb-bit (s .flag))
+    ∙ ap (λ (b : Bool). built s mem (s .flag) b (take 256 (s .links ++ rest))) (eqb-bit (s .waiting))
     ∙ ap (λ (l : List ℕ). built s mem (s .flag) (s .waiting) l) (take-at (s .links) rest 256 n)
 
 -- a machine's words hold 256 links
@@ -74,10 +68,6 @@ words-machine s rest c few =
     stateFrom-words (codeOf s) rest (s .core .mem) (full-links s few)
     ∙ code-view s (s .core .mem) (canonical-own (s .core .words) (c .canonical)) (c .flagged .bit) few
 
-pub bit-le : (b : Bool) → bit b ≤ 1
-bit-le true = omega arith
-bit-le false = omega arith
-
 -- any words are a clean machine
 pub words-clean : (ws mem : List ℕ) → Clean (stateFrom ws mem)
 words-clean ws mem = record { canonical = own-canonical _ _ _ _ _ _ _ _; flagged = record { bit = bit-le (eqb (ws at 7) 1) } }
@@ -91,6 +81,20 @@ ends nowhere = 2
 
 unended : (e : Refusal) (o : Outcome) (k : ℕ) (s : Rules.State) → refused e ≡ ended o k s → ⊥
 unended e o k s h = let z : _≡_ {A = ℕ} 0 1 = ap ends h in omega arith
+
+-- a table that fails is told by 30 whatever is asked
+answer-table : (t : List ℕ) (s : Rules.State) (c : Call) → tableOk t ≡ false → answer t s c ≡ refused badTable
+unfolding answer verdict if
+answer-table t s c e = rw e
+
+-- words that are a state: what is told of them is what the rules answer
+pub words-answer : (t ws mem : List ℕ) (c : Call) → lawful ws ≡ true → callWords t ws mem c ≡ answer t (stateFrom ws mem) c
+unfolding callWords
+words-answer t ws mem c a = by-table (tableOk t) refl
+  where
+    by-table : (b : Bool) → tableOk t ≡ b → callWords t ws mem c ≡ answer t (stateFrom ws mem) c
+    by-table true e = unless-yes _ _ _ e ∙ unless-yes _ _ _ a
+    by-table false e = unless-no _ _ _ e ∙ sym (answer-table t (stateFrom ws mem) c e)
 
 -- a call of a host that ends is the rules' call, on a table and a state that pass
 pub record Granted (t ws mem : List ℕ) (c : Call) (o : Outcome) (k : ℕ) (s : Rules.State) : Type 0 where
@@ -121,10 +125,6 @@ ended-granted t ws mem c o k s = go (tableOk t) refl (lawful ws) refl
     go true p false q h = absurd (unended badState o k s (rw (p, q) at h))
     go false p b q h = absurd (unended badTable o k s (rw p at h))
 
--- what a call leaves passes, if its table and its state pass
-pub left-passes : (t : List ℕ) (s : Rules.State) (c : Call) → Ok (tableOk t) → Ok (stateOk t s) → Ok (stateOk t (left s (answer t s c)))
-left-passes t s c ok h = call-ok t ok s (s .links) (sound t ok s (s .links) (parts t s h) refl) c .sound .passes
-
 -- the words left are the machine that the rules leave
 pub left-machine : (t ws mem : List ℕ) (c : Call) (after words : List ℕ) → after ≡ left (stateFrom ws mem) (callWords t ws mem c) .core .mem
     → words ≡ wordsLeft (callWords t ws mem c) ws → stateFrom words after ≡ left (stateFrom ws mem) (callWords t ws mem c)
@@ -137,7 +137,7 @@ left-machine t ws mem c after words = go (callWords t ws mem c) refl
     go (ended o k s) h m w =
         let g = ended-granted t ws mem c o k s h in
         let s₀ : Rules.State = stateFrom ws mem in
-        let fine : Ok (stateOk t s) = subst (λ (a : Run.Answer). Ok (stateOk t (left s₀ a))) (g .answers) (left-passes t s₀ c (g .table) (g .state)) in
+        let fine : Ok (stateOk t s) = ended-passes t s₀ c o k s (g .table) (g .state) (g .answers) in
         let few = state-limits t s fine .few in
         let clean : Clean s = subst (λ (a : Run.Answer). Clean (left s₀ a)) (g .answers) (answer-clean t s₀ c (words-clean ws mem)) in
         rw (m, w) (words-machine s (drop 267 ws) clean few)

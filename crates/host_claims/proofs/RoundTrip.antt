@@ -19,7 +19,7 @@ use Rattle.rules.specs.Snapshot.{awakened, fileLength, fileOf, filled, restoreO
 use Rattle.rules.specs.State as Rules
 use Rattle.rules.specs.State.{Link}
 use Rattle.rules.specs.Table.{freshCount, freshIndex}
-use Rattle.rules.proofs.Files.{areWords-set, length-fileOf}
+use Rattle.rules.proofs.Files.{areWords-set, bit-le, length-fileOf}
 use Rattle.rules.proofs.Plains.{areWords-own}
 use Rattle.rules.proofs.Snapshots.{awakened-same, restore-written, restored-fresh, same-file, same-written}
 use Rattle.states.proofs.Front.{links-length}
@@ -30,7 +30,6 @@ use Rattle.host_claims.specs.RoundTrip.{Held, HostRoundTrip, HostSecret,
 use Rattle.host_claims.proofs.Begins.{begun-checked, begun-words}
 use Rattle.host_claims.proofs.Calls.{host-calls}
 use Rattle.host_claims.proofs.Checked.{Checked, checked-number, lawful-length, number-checked, written-checked}
-use Rattle.host_claims.proofs.Machines.{bit-le}
 
 -- Words stay words: of what calls leave by their promises, and where the host writes words.
 

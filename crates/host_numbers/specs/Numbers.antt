@@ -1,9 +1,8 @@
--- The number of each answer of the snapshot and of the assembler, as a host sees it: alone, or in the upper half of an answer with a value.
--- Wrong answers that the equations rule out: another refusal's number, a length or a line in the upper half, a line beside 8, 9 or 10.
+-- The number of each answer of the snapshot, as a host sees it: alone, or in the upper half of an answer with a value.
+-- Wrong answers that the equations rule out: another refusal's number, a length in the upper half.
 -- Assumes nothing.
-use Prim.Native.Nat.{ℕ, _+_}
+use Prim.Native.Nat.{ℕ}
 use Rattle.rules.specs.Number.{refusalNumber, badTable, badState, badTrailer, otherProgram, badFrozen, freshCountOff, memoryLengthOff, shortRoom, upper}
-use Rattle.language.specs.Answer as Cards
 use Rattle.snapshot.specs.declared.waking.Answer.{Answer}
 use Rattle.snapshot.specs.declared.waking.Answer.the-variants.{Woken, BadTable, BadTrailer, OtherProgram, BadFrozen, FreshCountOff, MemoryLengthOff}
 use Rattle.snapshot.specs.declared.writing.Written.{Written}
@@ -26,8 +25,3 @@ numberWritten (Filled n) = n
 numberWritten written.BadTable = upper (refusalNumber badTable)
 numberWritten BadState = upper (refusalNumber badState)
 numberWritten ShortRoom = upper (refusalNumber shortRoom)
-
--- the number of the assembler's answer, with the table's length or the line of the fault
-abbrev pub assembledNumber : Cards.Answer → ℕ
-assembledNumber (Cards.assembled n) = upper 0 + n
-assembledNumber (Cards.refused r) = upper (Cards.refusalNumber r) + Cards.refusalLine r

@@ -1,22 +1,12 @@
-// The number of each answer of the snapshot and of the assembler [S Numbers the host sees]. Where there is a value too, the number is the
-// upper half of a u64 and the value the lower.
+// The number of each answer of the snapshot [S Numbers the host sees]. Where there is a value too, the number is the upper half of a u64
+// and the value the lower.
 ghost use mathlib.Core.Path.{_≡_};
-ghost use Prim.Native.Nat.{_+_};
-ghost use Rattle.assembler.specs.Answers.{answerView};
-ghost use Rattle.host_numbers.specs.Numbers.{assembledNumber, numberRestored, numberWritten};
-ghost use Rattle.rules.specs.Number.{upper};
-use assembler::Assembled;
+ghost use Rattle.host_numbers.specs.Numbers.{numberRestored, numberWritten};
 use snapshot::waking::Answer;
 use snapshot::writing::Written;
 
-// The answers: passed, those of the assembler that name no line, 30, 31, and those of the snapshot.
+// The answers: passed, 30, 31, and those of the snapshot.
 pub const PASSED: u32 = 0;
-
-const INCOMPLETE: u32 = 8;
-
-const OVER_LIMIT: u32 = 9;
-
-const SHORT_TABLE: u32 = 10;
 
 pub const BAD_TABLE: u32 = 30;
 
@@ -61,26 +51,5 @@ pub fn number_written(w: Written) -> u64
         Written::BadTable => UPPER * BAD_TABLE as u64,
         Written::BadState => UPPER * BAD_STATE as u64,
         Written::ShortRoom => UPPER * SHORT_ROOM as u64,
-    }
-}
-
-// A number and a value as one answer.
-fn both(number: u32, value: u32) -> u64
-    ensures { λ r. ⌜ r ≡ upper number + value ⌝ }
-{
-    UPPER * number as u64 + value as u64
-}
-
-// The number and the length or line of the assembler's answer.
-pub fn number_assembled(a: Assembled) -> u64
-    ensures { λ r. ⌜ r ≡ assembledNumber (answerView a) ⌝ }
-{
-    match a {
-        Assembled::Done(n) => both(0, n),
-        Assembled::LongText => both(OVER_LIMIT, 0),
-        Assembled::Faulty(f) => both(f.number, f.line),
-        Assembled::Incomplete => both(INCOMPLETE, 0),
-        Assembled::OverLimit => both(OVER_LIMIT, 0),
-        Assembled::ShortRoom => both(SHORT_TABLE, 0),
     }
 }

@@ -2,19 +2,17 @@
 -- The code's state beside its memory is the state that the rules leave, so all that is proved of the rules' calls holds of the code's.
 -- Assumes nothing.
 use Prim.Native.Nat.{ℕ}
-use mathlib.Core.Path.{_≡_, refl, ap}
+use mathlib.Core.Path.{_≡_, ap}
 use mathlib.Core.List.{List}
 use native.Mathlib.Omega.{arith}
 use Rattle.base.specs.Test.{Ok}
 use Rattle.rules.specs.Check.{tableOk}
-use Rattle.rules.specs.Claim.{CallClaim}
 use Rattle.rules.specs.Number.{Outcome}
 use Rattle.rules.specs.Run as Run
-use Rattle.rules.specs.Run.{Call, answer, ended, left, nowhere, refused, resumes, runs}
+use Rattle.rules.specs.Run.{answer, ended, left, nowhere, refused, resumes, runs}
 use Rattle.rules.specs.State as Rules
 use Rattle.rules.specs.State.{stateOk}
-use Rattle.rules.proofs.Runs.{call-ok, resume-keeps}
-use Rattle.rules.proofs.Steps.{parts, sound}
+use Rattle.rules.proofs.Runs.{call-passes, resume-keeps}
 use Rattle.states.specs.declared.State.{State}
 use Rattle.states.specs.Views.{stateOf}
 use Rattle.resuming.specs.Answers.{Report, Resumes, Runs, answeredBy, codeAfter, ends, refuses, reportOf}
@@ -39,13 +37,6 @@ left-is s c lent after p k (ended o n s′) u m h = state-of p k (stateOf c afte
 left-is s c lent after p k nowhere u m h = rw (h, m)
 
 module _ (t : List ℕ) (s : State) (lent : List ℕ) where
-  -- what a call leaves passes the state check, if what was lent did
-  passes : Ok (tableOk t) → Ok (stateOk t (stateOf s lent)) → (c : Call) → Ok (stateOk t (left (stateOf s lent) (answer t (stateOf s lent) c)))
-  passes ok h c =
-      let z : CallClaim t (stateOf s lent) (stateOf s lent .links) c =
-      call-ok t ok (stateOf s lent) (stateOf s lent .links) (sound t ok (stateOf s lent) (stateOf s lent .links) (parts t (stateOf s lent) h) refl) c in
-      z .sound .passes
-
   module _ (k : ℕ) (r : Ran) (after : List ℕ) (done : Runs t s lent k r after) where
     -- a run leaves the state that the rules leave
     pub ran-left : stateOf (r .state) after ≡ left (stateOf s lent) (answer t (stateOf s lent) (runs k))
@@ -55,7 +46,7 @@ module _ (t : List ℕ) (s : State) (lent : List ℕ) where
 
     -- which passes its check, so that the next call is not refused by 31
     pub ran-passes : Ok (tableOk t) → Ok (stateOk t (stateOf s lent)) → Ok (stateOk t (stateOf (r .state) after))
-    ran-passes ok h = rw ran-left (passes ok h (runs k))
+    ran-passes ok h = rw ran-left (call-passes t (stateOf s lent) (runs k) ok h)
 
   module _ (x : ℕ) (r : Resumed) (done : Resumes t s lent x r) where
     -- a resume leaves the state that the rules leave, in the same memory
@@ -66,4 +57,4 @@ module _ (t : List ℕ) (s : State) (lent : List ℕ) where
 
     -- which passes its check
     pub resumed-passes : Ok (tableOk t) → Ok (stateOk t (stateOf s lent)) → Ok (stateOk t (stateOf (r .state) lent))
-    resumed-passes ok h = rw resumed-left (passes ok h (resumes x))
+    resumed-passes ok h = rw resumed-left (call-passes t (stateOf s lent) (resumes x) ok h)

@@ -25,9 +25,9 @@ use Rattle.states.specs.Views.{codeOf, stateOf, wordsOf}
 use Rattle.states.specs.declared.State.{State}
 use Rattle.exec_core.specs.Views.{toward}
 use Rattle.exec_core.specs.Seen.{Seen, seen, stepped}
-use Rattle.exec_control.specs.Shows.{TakesExit, linksAfter}
-use Rattle.exec_control.specs.Stands.{Calls}
-use Rattle.exec_control.proofs.Called.{calls-of}
+use Rattle.exec_calls.specs.Shows.{TakesExit, linksAfter}
+use Rattle.exec_calls.specs.Stands.{Calls}
+use Rattle.exec_calls.proofs.Called.{calls-of}
 use Rattle.resuming.specs.Answers.{Resumes, declining, ends, refuses, reportOf}
 use Rattle.resuming.specs.Packing.{Linked, Packable, Passed}
 use Rattle.resuming.specs.declared.answers.Answer.{Answer}

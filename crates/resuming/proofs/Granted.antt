@@ -9,7 +9,6 @@ use lib.ListN.{length}
 use Rattle.base.specs.Test.{Ok, if}
 use Rattle.base.proofs.Bool.{passed}
 use Rattle.rules.specs.Check.{tableOk}
-use Rattle.rules.specs.Claim.{CallClaim}
 use Rattle.rules.specs.Number.{Outcome, Refusal, badTable, badState, Verdict, granted, refusedBy}
 use Rattle.rules.specs.Run as Run
 use Rattle.rules.specs.Run.{admitted, Call, answer, ended, left, ofCall, perform, refused, unlessRefused, verdict}
@@ -17,12 +16,12 @@ use Rattle.rules.specs.State as Rules
 use Rattle.rules.specs.State.{stateOk}
 use Rattle.rules.proofs.Canonical.{Clean, answer-clean, canonical-own, own-canonical}
 use Rattle.rules.proofs.Files.{bit-le}
-use Rattle.rules.proofs.Runs.{call-ok}
-use Rattle.rules.proofs.Steps.{parts, sound}
+use Rattle.rules.proofs.Runs.{ended-passes}
+use Rattle.rules.proofs.Steps.{parts}
 use Rattle.states.specs.Views.{codeOf, stateOf}
 use Rattle.states.specs.declared.State.{State}
 use Rattle.states.proofs.Coded.{code-view}
-use Rattle.states.proofs.Laws.{checked-of}
+use Rattle.state_check.proofs.Laws.{checked-of}
 use Rattle.resuming.specs.Packing.{Passed}
 
 abbrev mark : Verdict → ℕ
@@ -61,9 +60,7 @@ module _ (t : List ℕ) (s : State) (lent : List ℕ) (y : Passed t s lent) wher
 
   -- what a call leaves passes its check, and is clean
   pub left-passes : (c : Call) (o : Outcome) (n : ℕ) (s′ : Rules.State) → answer t s₀ c ≡ ended o n s′ → Ok (stateOk t s′)
-  left-passes c o n s′ u =
-      let z : CallClaim t s₀ (s₀ .links) c = call-ok t (y .table) s₀ (s₀ .links) (sound t (y .table) s₀ (s₀ .links) (parts t s₀ (y .state)) refl) c in
-      subst (λ (a : Run.Answer). Ok (stateOk t (left s₀ a))) u (z .sound .passes)
+  left-passes c o n s′ u = ended-passes t s₀ c o n s′ (y .table) (y .state) u
 
   left-clean : (c : Call) (o : Outcome) (n : ℕ) (s′ : Rules.State) → answer t s₀ c ≡ ended o n s′ → Clean s′
   left-clean c o n s′ u = subst (λ (a : Run.Answer). Clean (left s₀ a)) u (answer-clean t s₀ c (state-clean s lent))

@@ -9,8 +9,8 @@ use super::packing::settle;
 use super::packing::unpack_links;
 use super::packing::unpack_words;
 use bodies::entry::index;
-use exec_control::declared_at;
-use exec_control::take_exit;
+use exec_calls::declared_at;
+use exec_calls::take_exit;
 use exec_core::Answer as Code;
 use states::State;
 

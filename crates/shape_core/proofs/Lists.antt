@@ -10,7 +10,7 @@ use lib.Dec.{eqb, ltb}
 use lib.ListN.{length, getD}
 use borrow.Author.Tests.{eq-eqb, ne-eqb, lt-ltb, le-ltb}
 use Rattle.base.specs.Test.{_and_, _or_, if}
-use Rattle.base.proofs.Bool.{passed}
+use Rattle.base.proofs.Bool.{passed, if-no, if-yes}
 use Rattle.ops.specs.Class.{Class, executes, marks, is, classCode, JSR, PPM, ERR, IFF, PRC}
 use Rattle.rules.specs.Check.{isExit, allExits, exitList, iffs, isNamed, holds, flowRules, reaches}
 use Rattle.rules.specs.Table.{size, classAt, field, value, externals, freshCount, exitCount, Callee, procedure, external, unnamed, namesProcedure, namesExternal, callee, declared}
@@ -21,7 +21,7 @@ use Rattle.shape_core.specs.declared.exits.Exits.{Exits}
 use Rattle.shape_core.specs.declared.exits.Exits.the-variants as exits
 use Rattle.shape_core.proofs.Codes.{class-by, decoded, is-code}
 use Rattle.bodies.proofs.Places.{class-past}
-use Rattle.shape_core.proofs.Tests.{and-no, and-yes, and-none, if-no, if-yes}
+use Rattle.shape_core.proofs.Tests.{and-no, and-yes, and-none}
 
 -- an exit card by the number of its class
 pub exit-code : (t : List ℕ) (q k : ℕ) → k ≡ classCode (classAt t q) → isExit (classAt t q) ≡ eqb k 13 or eqb k 14

@@ -1,8 +1,8 @@
--- Tests whose first part is decided, and choices whose test is.
+-- Tests whose first part is decided.
 -- Assumes nothing.
 use mathlib.Core.Path.{_≡_, refl}
 use mathlib.Core.Bool.{Bool, true, false, not}
-use Rattle.base.specs.Test.{_and_, _or_, if}
+use Rattle.base.specs.Test.{_and_, _or_}
 
 pub and-no : (a b : Bool) → a ≡ false → a and b ≡ false
 unfolding _and_
@@ -24,14 +24,6 @@ or-no a b e = rw e refl
 pub or-yes : (a b : Bool) → a ≡ true → a or b ≡ true
 unfolding _or_
 or-yes a b e = rw e refl
-
-pub if-yes : {A : Type 0} (b : Bool) (x y : A) → b ≡ true → if b x y ≡ x
-unfolding if
-if-yes b x y e = rw e refl
-
-pub if-no : {A : Type 0} (b : Bool) (x y : A) → b ≡ false → if b x y ≡ y
-unfolding if
-if-no b x y e = rw e refl
 
 pub not-no : (b : Bool) → b ≡ false → not b ≡ true
 not-no b e = rw e refl

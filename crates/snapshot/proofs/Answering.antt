@@ -2,38 +2,28 @@
 -- Assumes nothing.
 use Prim.Native.Nat.{ℕ, _<_, _≤_}
 use mathlib.Core.Path.{_≡_, sym, ap, _∙_}
-use mathlib.Core.Bool.{Bool, true, false}
+use mathlib.Core.Bool.{true, false}
 use mathlib.Core.List.{List, _++_}
 use borrow.Author.Tests.{le-ltb, lt-ltb}
 use lib.ListN.{length, drop}
-use Rattle.base.specs.Test.{if}
+use Rattle.base.proofs.Bool.{if-no, if-yes, unless-no, unless-yes}
 use Rattle.rules.specs.Number.{badState, badTable, shortRoom}
 use Rattle.rules.specs.Check.{tableOk}
 use Rattle.rules.specs.State.{State, stateOk}
 use Rattle.rules.specs.Table.{freshCount}
 use Rattle.rules.specs.Snapshot.{fileLength, fileOf, filled, unwritten, writeOf}
 use Rattle.rules.proofs.Files.{length-fileOf}
-use Rattle.admission.proofs.Admits.{skip, stop}
 use Rattle.snapshot.specs.Answers.{Writes}
 use Rattle.snap_core.specs.Buffers.{put}
 use Rattle.snapshot.specs.declared.writing.Written.the-variants.{BadState, BadTable, Filled, ShortRoom}
 use Rattle.snap_core.proofs.Freshening.{put-front}
-
--- a choice by its test
-taken : {A : Type 0} (b : Bool) (x y : A) → b ≡ true → if b x y ≡ x
-unfolding if
-taken b x y e = rw e
-
-passed : {A : Type 0} (b : Bool) (x y : A) → b ≡ false → if b x y ≡ y
-unfolding if
-passed b x y e = rw e
 
 module _ (t : List ℕ) (s : State) (build : ℕ) (room : List ℕ) where
   -- 30
   pub unwritten-table : tableOk t ≡ false → Writes t s build room BadTable room
   unfolding writeOf
   unwritten-table a =
-      let u : writeOf t s build room ≡ unwritten badTable = stop _ _ _ a in
+      let u : writeOf t s build room ≡ unwritten badTable = unless-no _ _ _ a in
       record { answer = sym u; bytes = rw u; size = rw u }
 
   module _ (ok : tableOk t ≡ true) where
@@ -41,7 +31,7 @@ module _ (t : List ℕ) (s : State) (build : ℕ) (room : List ℕ) where
     pub unwritten-state : stateOk t s ≡ false → Writes t s build room BadState room
     unfolding writeOf
     unwritten-state a =
-        let u : writeOf t s build room ≡ unwritten badState = skip _ _ _ ok ∙ stop _ _ _ a in
+        let u : writeOf t s build room ≡ unwritten badState = unless-yes _ _ _ ok ∙ unless-no _ _ _ a in
         record { answer = sym u; bytes = rw u; size = rw u }
 
     module _ (passes : stateOk t s ≡ true) where
@@ -49,7 +39,7 @@ module _ (t : List ℕ) (s : State) (build : ℕ) (room : List ℕ) where
       pub unwritten-room : length room < fileLength (length (s .core .mem)) (length (s .links)) (freshCount t) → Writes t s build room ShortRoom room
       unfolding writeOf
       unwritten-room a =
-          let u : writeOf t s build room ≡ unwritten shortRoom = skip _ _ _ ok ∙ skip _ _ _ passes ∙ taken _ _ _ (lt-ltb _ _ a) in
+          let u : writeOf t s build room ≡ unwritten shortRoom = unless-yes _ _ _ ok ∙ unless-yes _ _ _ passes ∙ if-yes _ _ _ (lt-ltb _ _ a) in
           record { answer = sym u; bytes = rw u; size = rw u }
 
       -- the file at the front
@@ -61,5 +51,5 @@ module _ (t : List ℕ) (s : State) (build : ℕ) (room : List ℕ) where
           let whole : after ≡ fileOf t s build ++ drop (fileLength (length (s .core .mem)) (length (s .links)) (freshCount t)) room =
           h ∙ put-front room (fileOf t s build) ∙ rw length-fileOf in
           let u : writeOf t s build room ≡ filled after =
-          skip _ _ _ ok ∙ skip _ _ _ passes ∙ passed _ _ _ (le-ltb _ _ a) ∙ ap filled (sym whole) in
+          unless-yes _ _ _ ok ∙ unless-yes _ _ _ passes ∙ if-no _ _ _ (le-ltb _ _ a) ∙ ap filled (sym whole) in
           record { answer = sym u; bytes = rw u; size = rw u (e ∙ sym (length-fileOf t s build)) }

@@ -8,7 +8,7 @@ use native.Mathlib.Omega.{arith}
 use borrow.Author.Tests.{eq-eqb, ne-eqb}
 use lib.ListN.{length}
 use Rattle.base.specs.Test.{Ok}
-use Rattle.base.proofs.Bool.{and-l}
+use Rattle.base.proofs.Bool.{and-l, unless-no, unless-yes}
 use Rattle.rules.specs.Number.{Refusal, badTable, badTrailer, otherProgram, badFrozen, freshCountOff, memoryLengthOff}
 use Rattle.rules.specs.State as Rules
 use Rattle.rules.specs.Check.{tableOk}
@@ -20,7 +20,6 @@ use Rattle.rules.proofs.Files.{state-limits}
 use Rattle.rules.proofs.Restores.{wakes-restore}
 use Rattle.states.specs.declared.State.{State}
 use Rattle.states.specs.Views.{codeOf}
-use Rattle.admission.proofs.Admits.{skip, stop}
 use Rattle.snapshot.specs.Answers.{Restores, restoredBy, refusing}
 use Rattle.snapshot.specs.declared.waking.Answer.{Answer}
 use Rattle.snapshot.specs.declared.waking.Answer.the-variants.{Woken, BadTable, BadTrailer, OtherProgram, BadFrozen, FreshCountOff, MemoryLengthOff}
@@ -38,20 +37,20 @@ module _ (t file : List ℕ) (build : ℕ) (fs lent : List ℕ) (r : Restored) w
   -- 30
   pub refuses-table : tableOk t ≡ false → r ≡ refusing BadTable → Restores t file build fs lent r lent
   unfolding restoreOf
-  refuses-table a h = refuses t file build fs lent r BadTable badTable (λ s. refl) (stop _ _ _ a) h
+  refuses-table a h = refuses t file build fs lent r BadTable badTable (λ s. refl) (unless-no _ _ _ a) h
 
   module _ (ok : tableOk t ≡ true) where
     -- 40
     pub refuses-trailer : trailerOk file ≡ false → r ≡ refusing BadTrailer → Restores t file build fs lent r lent
     unfolding restoreOf
-    refuses-trailer a h = refuses t file build fs lent r BadTrailer badTrailer (λ s. refl) (skip _ _ _ ok ∙ stop _ _ _ a) h
+    refuses-trailer a h = refuses t file build fs lent r BadTrailer badTrailer (λ s. refl) (unless-yes _ _ _ ok ∙ unless-no _ _ _ a) h
 
     module _ (trailed : trailerOk file ≡ true) where
       -- 41
       pub refuses-program : sameProgram t build file ≡ false → r ≡ refusing OtherProgram → Restores t file build fs lent r lent
       unfolding restoreOf
       refuses-program a h =
-          refuses t file build fs lent r OtherProgram otherProgram (λ s. refl) (skip _ _ _ ok ∙ skip _ _ _ trailed ∙ stop _ _ _ a) h
+          refuses t file build fs lent r OtherProgram otherProgram (λ s. refl) (unless-yes _ _ _ ok ∙ unless-yes _ _ _ trailed ∙ unless-no _ _ _ a) h
 
       module _ (program : sameProgram t build file ≡ true) where
         -- 42
@@ -59,7 +58,7 @@ module _ (t file : List ℕ) (build : ℕ) (fs lent : List ℕ) (r : Restored) w
         unfolding restoreOf
         refuses-frozen a h =
             refuses t file build fs lent r BadFrozen badFrozen (λ s. refl)
-            (skip _ _ _ ok ∙ skip _ _ _ trailed ∙ skip _ _ _ program ∙ stop _ _ _ a) h
+            (unless-yes _ _ _ ok ∙ unless-yes _ _ _ trailed ∙ unless-yes _ _ _ program ∙ unless-no _ _ _ a) h
 
         module _ (frozen : frozenOk t (frozenIn file) ≡ true) where
           -- 43
@@ -67,7 +66,7 @@ module _ (t file : List ℕ) (build : ℕ) (fs lent : List ℕ) (r : Restored) w
           unfolding restoreOf
           refuses-supply a h =
               refuses t file build fs lent r FreshCountOff freshCountOff (λ s. refl)
-              (skip _ _ _ ok ∙ skip _ _ _ trailed ∙ skip _ _ _ program ∙ skip _ _ _ frozen ∙ stop _ _ _ (ne-eqb _ _ a)) h
+              (unless-yes _ _ _ ok ∙ unless-yes _ _ _ trailed ∙ unless-yes _ _ _ program ∙ unless-yes _ _ _ frozen ∙ unless-no _ _ _ (ne-eqb _ _ a)) h
 
           module _ (supply : length fs ≡ freshCount t) where
             -- 44
@@ -75,8 +74,8 @@ module _ (t file : List ℕ) (build : ℕ) (fs lent : List ℕ) (r : Restored) w
             unfolding restoreOf
             refuses-lending a h =
                 refuses t file build fs lent r MemoryLengthOff memoryLengthOff (λ s. refl)
-                (skip _ _ _ ok ∙ skip _ _ _ trailed ∙ skip _ _ _ program ∙ skip _ _ _ frozen ∙ skip _ _ _ (eq-eqb _ _ supply)
-                ∙ stop _ _ _ (ne-eqb _ _ a)) h
+                (unless-yes _ _ _ ok ∙ unless-yes _ _ _ trailed ∙ unless-yes _ _ _ program ∙ unless-yes _ _ _ frozen ∙ unless-yes _ _ _ (eq-eqb _ _ supply)
+                ∙ unless-no _ _ _ (ne-eqb _ _ a)) h
 
 -- the links of a file that is fit to be woken are few
 pub frozen-few : (t file : List ℕ) → Ok (frozenOk t (frozenIn file)) → linksIn file ≤ 256

@@ -26,9 +26,9 @@ use snap_core::trailer::XS;
 use snap_core::trailer::links_from;
 use snap_core::trailer::memory_from;
 use snap_core::trailer::trailer_word;
+use state_check::passing::state_ok;
 use states::State;
 use states::no_links;
-use states::passing::state_ok;
 
 // The links of a file, oldest first, and 0 behind them.
 pub fn frozen_links(file: &[u8]) -> [u32; 256]

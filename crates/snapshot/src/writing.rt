@@ -17,9 +17,9 @@ use snap_core::copy::write_words;
 use snap_core::fresh::write_memory;
 use snap_core::layout::file_length;
 use snap_core::layout::index;
+use state_check::passing::state_ok;
 use states::State;
 use states::bit;
-use states::passing::state_ok;
 
 // What the writer answers: the length L of the file, or why there is none, with the numbers 30, 31, 45.
 pub enum Written {

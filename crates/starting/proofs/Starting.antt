@@ -8,16 +8,14 @@ use native.Mathlib.Omega.{arith}
 use borrow.Author.Tests.{eq-eqb, ne-eqb}
 use lib.ListN.{length}
 use Rattle.base.specs.Test.{Ok}
+use Rattle.base.proofs.Bool.{unless-no, unless-yes}
 use Rattle.rules.specs.Number.{Refusal, refusedBy, badTable, unfitMemory, freshCountOff}
-use Rattle.rules.specs.State as Rules
 use Rattle.rules.specs.State.{memoryFits}
 use Rattle.rules.specs.Check.{tableOk}
 use Rattle.rules.specs.Table.{constants, freshCount, workings}
 use Rattle.rules.specs.Start.{begun, unbegun, loaded, started, startOf}
-use Rattle.states.specs.Views.{codeOf, freshOf, stateOf}
-use Rattle.admission.proofs.Admits.{skip, stop}
-use Rattle.states.proofs.Coded.{code-view, fresh-view}
-use Rattle.states.proofs.Laws.{memory-of}
+use Rattle.states.specs.Views.{freshOf, stateOf}
+use Rattle.states.proofs.Coded.{code-view, fresh-view, memory-of}
 use Rattle.starting.specs.Answers.{Starts, refusing, verdictOf}
 use Rattle.starting.specs.declared.Answer.{Answer}
 use Rattle.starting.specs.declared.Answer.the-variants.{Begun, BadTable, UnfitMemory, FreshCountOff}
@@ -42,27 +40,27 @@ module _ (t lent fs : List ℕ) (x : ℕ) (r : Started) where
   -- 30
   pub refuses-table : tableOk t ≡ false → r ≡ refusing BadTable → Starts t lent fs x r lent
   unfolding startOf
-  refuses-table a h = refuses t lent fs x r BadTable badTable refl (stop _ _ _ a) h
+  refuses-table a h = refuses t lent fs x r BadTable badTable refl (unless-no _ _ _ a) h
 
   module _ (ok : tableOk t ≡ true) where
     -- 10
     pub refuses-memory : memoryFits t (length lent) ≡ false → r ≡ refusing UnfitMemory → Starts t lent fs x r lent
     unfolding startOf
-    refuses-memory a h = refuses t lent fs x r UnfitMemory unfitMemory refl (skip _ _ _ ok ∙ stop _ _ _ a) h
+    refuses-memory a h = refuses t lent fs x r UnfitMemory unfitMemory refl (unless-yes _ _ _ ok ∙ unless-no _ _ _ a) h
 
     module _ (fits : memoryFits t (length lent) ≡ true) where
       -- 43
       pub refuses-supply : (length fs ≡ freshCount t → ⊥) → r ≡ refusing FreshCountOff → Starts t lent fs x r lent
       unfolding startOf
       refuses-supply a h =
-          refuses t lent fs x r FreshCountOff freshCountOff refl (skip _ _ _ ok ∙ skip _ _ _ fits ∙ stop _ _ _ (ne-eqb _ _ a)) h
+          refuses t lent fs x r FreshCountOff freshCountOff refl (unless-yes _ _ _ ok ∙ unless-yes _ _ _ fits ∙ unless-no _ _ _ (ne-eqb _ _ a)) h
 
       -- the program begins
       pub begins : (after : List ℕ) → length fs ≡ freshCount t → r ≡ record { answer = Begun; state = freshOf t (length lent) x }
           → after ≡ loaded t fs lent → Starts t lent fs x r after
       unfolding startOf started
       begins after supply h e =
-          let u : startOf t lent fs x ≡ begun (started t lent fs x) = skip _ _ _ ok ∙ skip _ _ _ fits ∙ skip _ _ _ (eq-eqb _ _ supply) in
+          let u : startOf t lent fs x ≡ begun (started t lent fs x) = unless-yes _ _ _ ok ∙ unless-yes _ _ _ fits ∙ unless-yes _ _ _ (eq-eqb _ _ supply) in
           record {
             answer = rw (h, u, e) (ap begun (started-view t lent fs x));
             memory = rw u e;

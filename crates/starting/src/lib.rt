@@ -5,8 +5,8 @@ ghost use Rattle.rules.specs.Number.{verdictNumber};
 ghost use Rattle.starting.specs.Answers.{Starts, refusing, verdictOf};
 use loading::fresh_count;
 use loading::load;
+use state_check::passing::memory_fits;
 use states::State;
-use states::passing::memory_fits;
 use tables::check_table;
 
 // What a start answers: the program has begun, or why not, with the numbers 0, 30, 10, 43.

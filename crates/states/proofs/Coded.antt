@@ -9,6 +9,7 @@ use lib.ListN.{length, drop, replicate}
 use lib.Seq.{take-append-seam}
 use Rattle.base.specs.Test.{Ok}
 use Rattle.base.specs.Lists.{_at_}
+use Rattle.base.proofs.Bool.{and-l, and-r, ok-le}
 use Rattle.ops.specs.Machine.{XL, XR, XS, WA, WB, WC, IA, FLAG}
 use Rattle.rules.specs.Check.{tableOk}
 use Rattle.rules.specs.Control.{stateAt}
@@ -16,11 +17,21 @@ use Rattle.rules.specs.Snapshot.{bit}
 use Rattle.rules.specs.Start.{ownWords, started}
 use Rattle.rules.specs.State as Rules
 use Rattle.rules.specs.State.{memoryFits}
-use Rattle.states.specs.Checked.{Memory}
+use Rattle.rules.specs.Table.{constants, workings}
+use Rattle.states.specs.Memory.{Memory}
 use Rattle.states.specs.Views.{codeOf, freshOf, linksOf, stateOf}
 use Rattle.states.proofs.Front.{links-front}
-use Rattle.states.proofs.Laws.{memory-of}
 use Rattle.bodies.proofs.Places.{entries-of}
+
+-- memory that fits keeps its limits
+pub memory-of : (t : List ℕ) (m : ℕ) → Ok (memoryFits t m) → Memory t m
+unfolding memoryFits constants workings
+memory-of t m h = record {
+  least = ok-le _ _ (and-l _ _ h);
+  most = ok-le _ _ (and-l _ _ (and-r _ _ h));
+  rest = ok-le _ _
+      (and-r _ _ (and-r _ _ h));
+}
 
 -- the words that the fresh state is made of: the table's header is there, and memory has its limits
 pub record Lent (t : List ℕ) (m : ℕ) : Type 0 where

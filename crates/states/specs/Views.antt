@@ -1,28 +1,22 @@
 -- The code's state and its memory as the rules' state, and a state of the rules in code.
 -- Assumes nothing.
 use Prim.Native.Nat.{ℕ, _-_}
-use mathlib.Core.Bool.{Bool, false}
+use mathlib.Core.Bool.{false}
 use mathlib.Core.List.{List, [], _++_}
 use lib.Dec.{eqb}
 use lib.ListN.{length, replicate, take}
 use Rattle.base.specs.Lists.{_at_}
-use Rattle.base.specs.Test.{_and_}
 use Rattle.ops.specs.Machine.{maxLinks, XL, XR, XS, WA, WB, WC, IA, FLAG}
 use Rattle.rules.specs.Control.{stateAt}
 use Rattle.rules.specs.Snapshot.{bit}
 use Rattle.rules.specs.Start.{firstWords, ownWords}
 use Rattle.rules.specs.State as Rules
-use Rattle.rules.specs.State.{held, topLink, waitOk}
-use Rattle.rules.specs.Table.{bodyAt, executable, section4}
+use Rattle.rules.specs.Table.{section4}
 use Rattle.states.specs.declared.State.{State}
 
 -- k links of the array ls; where k is over the limit, a list of k links all the same, so that the rules refuse it
 unfoldable pub linksOf : ℕ → List ℕ → List ℕ
 linksOf k ls = take k ls ++ replicate (k - maxLinks) 0
-
--- what the state check asks of the place p with these links: it can be arrived at, is covered, and is an EXP's JSR where the state waits
-unfoldable pub placedOk : List ℕ → ℕ → List ℕ → Bool → Bool
-placedOk t p ls waiting = executable t p and held t (bodyAt t p) (topLink 0 ls) and waitOk t p waiting
 
 -- the machine's own words
 abbrev pub wordsOf : State → List ℕ

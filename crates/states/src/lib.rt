@@ -1,5 +1,4 @@
-// The state of the machine as the host holds it, and its check [S Numbers the host sees].
-// The check asks the table once for the body of each place, then each link and the place in turn.
+// The state of the machine as the host holds it, and the fresh state [S Numbers the host sees].
 ghost use mathlib.Core.Path.{_≡_};
 ghost use lib.ListN.{replicate};
 ghost use Rattle.base.specs.Test.{Ok};
@@ -10,10 +9,6 @@ ghost use Rattle.states.specs.Views.{blank, freshOf};
 use bodies::entry::CONSTANTS;
 use bodies::entry::WORKINGS;
 use ops::constants::Machine;
-
-pub mod calls;
-pub mod chain;
-pub mod passing;
 
 // The state beside its memory: the registers, IA's 32 bits, the overflow flag, the place, whether it waits at the JSR of an EXP,
 // how many links are open, and the links' places, oldest first. Links from count on are not looked at.

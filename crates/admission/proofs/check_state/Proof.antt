@@ -5,7 +5,7 @@ use Rattle.admission.proofs.check_state.Statement.{statement}
 use Rattle.admission.proofs.check_state.Tie as tie
 use Rattle.admission.proofs.check_state.Reads as reads
 use Rattle.admission.proofs.check_state.Lts as lts
-use Rattle.states.proofs.passing.state_ok.Reads as state-ok-reads
+use Rattle.state_check.proofs.passing.state_ok.Reads as state-ok-reads
 use Rattle.tables.proofs.check_table.Reads as check-table-reads
 
 check-table-requires : tie.Need-check-table-requires

@@ -17,7 +17,7 @@ use Rattle.asm_faults.proofs.labels.label_right.Reads as label-right-re
 use Rattle.asm_faults.proofs.lines.line_formed.Reads as line-formed-reads
 use Rattle.asm_faults.proofs.operands.lists_right.Reads as lists-right-reads
 use Rattle.asm_faults.proofs.operands.operands_right.Reads as operands-right-reads
-use Rattle.asm_operations.proofs.sections.of_section.Reads as of-section-reads
+use Rattle.asm_sections.proofs.of_section.Reads as of-section-reads
 use Rattle.asm_outcomes.proofs.all_defined.Reads as all-defined-reads
 
 line-formed-requires : tie.Need-line-formed-requires

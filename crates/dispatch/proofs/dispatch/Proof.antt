@@ -17,7 +17,7 @@ use Rattle.exec_branches.proofs.Takes as branches
 use Rattle.exec_chars.proofs.Takes as chars
 use Rattle.exec_integers.proofs.Takes as integers
 use Rattle.exec_moves.proofs.Takes as moves
-use Rattle.exec_control.proofs.Linked.{links-count}
+use Rattle.exec_calls.proofs.Linked.{links-count}
 use Rattle.exec_control.proofs.Ready.{stands, few-links, open-links, roomy-memory}
 use Rattle.dispatch.proofs.Listed.{unlisted}
 use borrow.Author.Needs.{needs}

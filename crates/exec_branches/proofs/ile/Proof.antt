@@ -5,7 +5,7 @@ use Rattle.exec_branches.proofs.ile.Tie as tie
 use Rattle.exec_branches.proofs.ile.Reads as reads
 use Rattle.exec_branches.proofs.ile.Lts as lts
 use Rattle.exec_branches.proofs.first_if.Reads as first-if-reads
-use Rattle.words.proofs.positive.Reads as positive-reads
+use Rattle.integers.proofs.positive.Reads as positive-reads
 
 -- src/lib.rt:281:37
 element-copy-out-positive : tie.Need-element-copy-out-positive

@@ -2,7 +2,7 @@ use native.Mathlib.Omega.{arith}
 use Rattle.rules.specs.Operand.{given}
 use Rattle.rules.specs.Exec.{tells}
 use Rattle.exec_core.specs.Entry.{readable, going}
-use Rattle.exec_control.proofs.Places.{entry-at}
+use Rattle.exec_calls.proofs.Places.{entry-at}
 use Rattle.exec_control.proofs.Entered.{entry-few, bri-goes}
 use Rattle.exec_control.proofs.Takes.{bri-takes}
 use borrow.Author.Needs.{needs}

@@ -1,6 +1,6 @@
 use Rattle.exec_core.specs.Entry.{readable, isPlace, going}
 use Rattle.exec_core.proofs.Laws.{place-kind}
-use Rattle.exec_control.proofs.Places.{entry-bare, first-goes}
+use Rattle.exec_control.proofs.Jumps.{entry-bare, first-goes}
 use Rattle.exec_control.proofs.Takes.{brn-takes}
 use Rattle.exec_control.proofs.brn.Statement.{statement}
 use Rattle.exec_control.proofs.brn.Tie as tie

@@ -5,14 +5,15 @@ use Rattle.ops.specs.Class.{BSW}
 use Rattle.base.proofs.Bool.{passed}
 use Rattle.exec_core.specs.Seen.{placeOf}
 use Rattle.exec_core.specs.Entry.{readable, inRegister, going}
-use Rattle.exec_control.proofs.Places.{entry-bare, register-small, class-at}
+use Rattle.exec_calls.proofs.Places.{class-at}
+use Rattle.exec_control.proofs.Jumps.{entry-bare, register-small}
 use Rattle.exec_control.proofs.Switched.{Walks, walk-start, walk-long, walk-hit, walk-next, walk-missed, bsw-hit, bsw-none, bsw-default}
 use Rattle.exec_control.proofs.Takes.{bsw-takes}
 use Rattle.exec_control.proofs.bsw.Statement.{statement}
 use Rattle.exec_control.proofs.bsw.Tie as tie
 use Rattle.exec_control.proofs.bsw.Reads as reads
 use Rattle.exec_control.proofs.bsw.Lts as lts
-use Rattle.exec_control.proofs.to_place.Reads as to-place-reads
+use Rattle.exec_calls.proofs.to_place.Reads as to-place-reads
 use Rattle.exec_core.proofs.operands.index.Reads as index-reads
 use Rattle.exec_core.proofs.operands.to_third.Reads as to-third-reads
 

@@ -1,10 +1,10 @@
-use Rattle.exec_control.proofs.Places.{checks-below, checks-on}
+use Rattle.exec_control.proofs.Jumps.{checks-below, checks-on}
 use borrow.Author.Needs.{needs}
 use Rattle.exec_control.proofs.chk.Statement.{statement}
 use Rattle.exec_control.proofs.chk.Tie as tie
 use Rattle.exec_control.proofs.chk.Reads as reads
 use Rattle.exec_control.proofs.chk.Lts as lts
-use Rattle.exec_control.proofs.to_place.Reads as to-place-reads
+use Rattle.exec_calls.proofs.to_place.Reads as to-place-reads
 use Rattle.exec_core.proofs.operands.index.Reads as index-reads
 
 -- src/lib.rt:110:14

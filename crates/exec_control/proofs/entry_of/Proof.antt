@@ -1,7 +1,7 @@
 use mathlib.Core.Path.{refl}
 use native.Mathlib.Omega.{arith}
 use Rattle.rules.specs.Table.{size}
-use Rattle.exec_control.proofs.Places.{header}
+use Rattle.exec_calls.proofs.Places.{header}
 use Rattle.exec_control.proofs.Entered.{entry-below, entry-unaligned, entry-past, entry-other, entry-found}
 use borrow.Author.Needs.{needs}
 use Rattle.exec_control.proofs.entry_of.Statement.{statement}

@@ -1,12 +1,11 @@
 use mathlib.Core.Path.{refl}
-use Rattle.rules.specs.Table.{section6}
-use Rattle.exec_control.proofs.Places.{value-at}
+use Rattle.exec_calls.proofs.Places.{value-at}
 use borrow.Author.Needs.{needs}
 use Rattle.exec_control.proofs.erb.Statement.{statement}
 use Rattle.exec_control.proofs.erb.Tie as tie
 use Rattle.exec_control.proofs.erb.Reads as reads
 use Rattle.exec_control.proofs.erb.Lts as lts
-use Rattle.exec_control.proofs.to_place.Reads as to-place-reads
+use Rattle.exec_calls.proofs.to_errors.Reads as to-errors-reads
 
 -- src/lib.rt:101:24
 add-z : tie.Need-add-z
@@ -24,18 +23,13 @@ shared-slice-read-z c = search needs
 element-write-z : tie.Need-element-write-z
 element-write-z c = search needs
 
--- src/lib.rt:102:14
-shared-slice-read-to-place : tie.Need-shared-slice-read-to-place
-shared-slice-read-to-place c = search needs
-
 -- src/lib.rt:102:5
-to-place-requires : tie.Need-to-place-requires
-to-place-requires c κs = search needs
+to-errors-requires : tie.Need-to-errors-requires
+to-errors-requires c κs = search needs
 
 -- src/lib.rt:97:1
 returns : tie.Need-returns
-unfolding section6
-returns c = λ k m ls. rw (c .to-place .ensures, value-at _ _ _ (c .before .before .before .before .pre .starts)) refl
+returns c = λ k m ls. rw (c .to-errors .ensures, value-at _ _ _ (c .before .before .before .pre .starts)) refl
 
 pub erb-spec : {M : Type 1} → statement M
 erb-spec =
@@ -45,6 +39,5 @@ erb-spec =
     mul-z
     shared-slice-read-z
     element-write-z
-    shared-slice-read-to-place
-    to-place-requires
+    to-errors-requires
     returns)

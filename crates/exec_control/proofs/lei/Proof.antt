@@ -1,6 +1,6 @@
 use native.Mathlib.Omega.{arith}
 use Rattle.exec_core.specs.Entry.{readable, inRegister, going}
-use Rattle.exec_control.proofs.Places.{entry-bare, register-small}
+use Rattle.exec_control.proofs.Jumps.{entry-bare, register-small}
 use Rattle.exec_control.proofs.Entered.{entry-few, lei-missing, lei-unvalued, lei-loads}
 use Rattle.exec_control.proofs.Takes.{lei-takes}
 use borrow.Author.Needs.{needs}

@@ -4,9 +4,9 @@ use Rattle.exec_integers.proofs.adi.Statement.{statement}
 use Rattle.exec_integers.proofs.adi.Tie as tie
 use Rattle.exec_integers.proofs.adi.Reads as reads
 use Rattle.exec_integers.proofs.adi.Lts as lts
-use Rattle.exec_integers.proofs.accumulate.Reads as accumulate-reads
+use Rattle.accumulator.proofs.accumulate.Reads as accumulate-reads
 use Rattle.exec_integers.proofs.load.Reads as load-reads
-use Rattle.words.proofs.sum.Reads as sum-reads
+use Rattle.integers.proofs.sum.Reads as sum-reads
 
 -- src/lib.rt:73:9
 load-requires : tie.Need-load-requires

@@ -4,16 +4,16 @@ use mir.Syntax.{w64}
 use Rattle.base.specs.Test.{if}
 use Rattle.words.specs.Words.{low}
 use Rattle.rules.specs.Exec.{cvdOf}
-use Rattle.exec_integers.proofs.Laws.{quot-ten}
+use Rattle.accumulator.proofs.Laws.{quot-ten}
 use borrow.Author.Needs.{needs}
 use Rattle.exec_integers.proofs.cvd.Statement.{statement}
 use Rattle.exec_integers.proofs.cvd.Tie as tie
 use Rattle.exec_integers.proofs.cvd.Reads as reads
 use Rattle.exec_integers.proofs.cvd.Lts as lts
-use Rattle.exec_integers.proofs.last_digit.Reads as last-digit-reads
-use Rattle.words.proofs.low.Reads as low-reads
-use Rattle.words.proofs.positive.Reads as positive-reads
-use Rattle.words.proofs.quotient.Reads as quotient-reads
+use Rattle.accumulator.proofs.last_digit.Reads as last-digit-reads
+use Rattle.integers.proofs.low.Reads as low-reads
+use Rattle.integers.proofs.positive.Reads as positive-reads
+use Rattle.integers.proofs.quotient.Reads as quotient-reads
 
 -- src/lib.rt:270:13
 element-copy-out-a : tie.Need-element-copy-out-a

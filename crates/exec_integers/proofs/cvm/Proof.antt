@@ -6,17 +6,17 @@ use Rattle.words.specs.Words.{low, fits}
 use Rattle.rules.specs.Exec.{cvmOf, cvmBy}
 use Rattle.exec_core.proofs.Laws.{place-kind}
 use Rattle.exec_core.specs.Views.{wayOf}
-use Rattle.exec_integers.proofs.Laws.{digit-from}
+use Rattle.accumulator.proofs.Laws.{digit-from}
 use borrow.Author.Needs.{needs}
 use Rattle.exec_integers.proofs.cvm.Statement.{statement}
 use Rattle.exec_integers.proofs.cvm.Tie as tie
 use Rattle.exec_integers.proofs.cvm.Reads as reads
 use Rattle.exec_integers.proofs.cvm.Lts as lts
 use Rattle.exec_core.proofs.operands.to_first.Reads as to-first-reads
-use Rattle.exec_integers.proofs.no_digit.Reads as no-digit-reads
-use Rattle.exec_integers.proofs.shifted.Reads as shifted-reads
-use Rattle.words.proofs.fits.Reads as fits-reads
-use Rattle.words.proofs.low.Reads as low-reads
+use Rattle.accumulator.proofs.no_digit.Reads as no-digit-reads
+use Rattle.accumulator.proofs.shifted.Reads as shifted-reads
+use Rattle.integers.proofs.fits.Reads as fits-reads
+use Rattle.integers.proofs.low.Reads as low-reads
 
 -- src/lib.rt:229:13
 element-copy-out-a : tie.Need-element-copy-out-a

@@ -8,9 +8,9 @@ use Rattle.exec_integers.proofs.dvi.Statement.{statement}
 use Rattle.exec_integers.proofs.dvi.Tie as tie
 use Rattle.exec_integers.proofs.dvi.Reads as reads
 use Rattle.exec_integers.proofs.dvi.Lts as lts
-use Rattle.exec_integers.proofs.divide.Reads as divide-reads
+use Rattle.accumulator.proofs.divide.Reads as divide-reads
 use Rattle.exec_integers.proofs.load.Reads as load-reads
-use Rattle.words.proofs.quotient.Reads as quotient-reads
+use Rattle.integers.proofs.quotient.Reads as quotient-reads
 
 -- src/lib.rt:117:9
 load-requires : tie.Need-load-requires

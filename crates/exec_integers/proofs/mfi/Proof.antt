@@ -18,7 +18,7 @@ use Rattle.exec_core.proofs.operands.fetch.Reads as fetch-reads
 use Rattle.exec_core.proofs.operands.operand.Reads as operand-reads
 use Rattle.exec_core.proofs.operands.store.Reads as store-reads
 use Rattle.exec_integers.proofs.after_range.Reads as after-range-reads
-use Rattle.exec_integers.proofs.in_range_or.Reads as in-range-or-reads
+use Rattle.accumulator.proofs.in_range_or.Reads as in-range-or-reads
 
 -- src/lib.rt:190:26
 add-operand : tie.Need-add-operand

@@ -4,9 +4,9 @@ use Rattle.exec_integers.proofs.mli.Statement.{statement}
 use Rattle.exec_integers.proofs.mli.Tie as tie
 use Rattle.exec_integers.proofs.mli.Reads as reads
 use Rattle.exec_integers.proofs.mli.Lts as lts
-use Rattle.exec_integers.proofs.accumulate.Reads as accumulate-reads
+use Rattle.accumulator.proofs.accumulate.Reads as accumulate-reads
 use Rattle.exec_integers.proofs.load.Reads as load-reads
-use Rattle.words.proofs.product.Reads as product-reads
+use Rattle.integers.proofs.product.Reads as product-reads
 
 -- src/lib.rt:89:9
 load-requires : tie.Need-load-requires

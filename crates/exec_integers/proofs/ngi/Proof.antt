@@ -8,8 +8,8 @@ use Rattle.exec_integers.proofs.ngi.Statement.{statement}
 use Rattle.exec_integers.proofs.ngi.Tie as tie
 use Rattle.exec_integers.proofs.ngi.Reads as reads
 use Rattle.exec_integers.proofs.ngi.Lts as lts
-use Rattle.exec_integers.proofs.accumulate.Reads as accumulate-reads
-use Rattle.words.proofs.negation.Reads as negation-reads
+use Rattle.accumulator.proofs.accumulate.Reads as accumulate-reads
+use Rattle.integers.proofs.negation.Reads as negation-reads
 
 -- src/lib.rt:155:29
 element-copy-out-negation : tie.Need-element-copy-out-negation

@@ -8,9 +8,9 @@ use Rattle.exec_integers.proofs.rmi.Statement.{statement}
 use Rattle.exec_integers.proofs.rmi.Tie as tie
 use Rattle.exec_integers.proofs.rmi.Reads as reads
 use Rattle.exec_integers.proofs.rmi.Lts as lts
-use Rattle.exec_integers.proofs.divide.Reads as divide-reads
+use Rattle.accumulator.proofs.divide.Reads as divide-reads
 use Rattle.exec_integers.proofs.load.Reads as load-reads
-use Rattle.words.proofs.remainder.Reads as remainder-reads
+use Rattle.integers.proofs.remainder.Reads as remainder-reads
 
 -- src/lib.rt:131:9
 load-requires : tie.Need-load-requires

@@ -4,9 +4,9 @@ use Rattle.exec_integers.proofs.sbi.Statement.{statement}
 use Rattle.exec_integers.proofs.sbi.Tie as tie
 use Rattle.exec_integers.proofs.sbi.Reads as reads
 use Rattle.exec_integers.proofs.sbi.Lts as lts
-use Rattle.exec_integers.proofs.accumulate.Reads as accumulate-reads
+use Rattle.accumulator.proofs.accumulate.Reads as accumulate-reads
 use Rattle.exec_integers.proofs.load.Reads as load-reads
-use Rattle.words.proofs.difference.Reads as difference-reads
+use Rattle.integers.proofs.difference.Reads as difference-reads
 
 -- src/lib.rt:103:9
 load-requires : tie.Need-load-requires

@@ -10,7 +10,7 @@ use Rattle.asm_faults.proofs.lines.text_there.Tie as tie
 use Rattle.asm_faults.proofs.lines.text_there.Reads as reads
 use Rattle.asm_faults.proofs.lines.text_there.Lts as lts
 use Rattle.asm_faults.proofs.lines.is_tail_empty.Reads as is-tail-empty-reads
-use Rattle.asm_operations.proofs.codes.is_assembly.Reads as is-assembly-reads
+use Rattle.asm_sections.proofs.codes.is_assembly.Reads as is-assembly-reads
 
 is-assembly-requires : tie.Need-is-assembly-requires
 is-assembly-requires c κs = search needs

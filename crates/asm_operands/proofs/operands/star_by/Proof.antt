@@ -5,7 +5,7 @@ use borrow.Author.Needs.{needs}
 use Rattle.base.specs.Lists.{_at_}
 use Rattle.language.specs.Operand.{suppliedBy}
 use Rattle.asm_operands.specs.LineCard.{starOf}
-use Rattle.ops.specs.Supplied.{suppliedOf}
+use Rattle.supplied.specs.Supplied.{suppliedOf}
 use borrow.Author.Needs.{needs}
 use Rattle.asm_operands.proofs.operands.star_by.Statement.{statement}
 use Rattle.asm_operands.proofs.operands.star_by.Tie as tie
@@ -13,7 +13,7 @@ use Rattle.asm_operands.proofs.operands.star_by.Reads as reads
 use Rattle.asm_operands.proofs.operands.star_by.Lts as lts
 use Rattle.asm_operands.proofs.operands.byte_at.Reads as byte-at-reads
 use Rattle.asm_operands.proofs.operands.value_of.Reads as value-of-reads
-use Rattle.ops.proofs.supplied.supplied_value.Reads as supplied-value-reads
+use Rattle.supplied.proofs.supplied_value.Reads as supplied-value-reads
 
 byte-at-requires : tie.Need-byte-at-requires
 byte-at-requires c κs = search needs

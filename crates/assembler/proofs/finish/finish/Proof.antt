@@ -11,7 +11,7 @@ use Rattle.assembler.proofs.finish.finish.Tie as tie
 use Rattle.assembler.proofs.finish.finish.Reads as reads
 use Rattle.assembler.proofs.finish.finish.Lts as lts
 use Rattle.asm_shapes.proofs.classes.classes_of.Reads as classes-of-reads
-use Rattle.assembler.proofs.finish.copy.Reads as copy-reads
+use Rattle.asm_answers.proofs.room.is_placed.Reads as is-placed-reads
 use Rattle.assembler.proofs.finish.is_complete.Reads as is-complete-reads
 use Rattle.assembler.proofs.finish.is_within.Reads as is-within-reads
 use Rattle.assembler.proofs.judge.fault_in.Reads as fault-in-reads
@@ -59,7 +59,7 @@ same-length-2 c = search needs
 
 -- src/finish.rt:95:9
 returns : tie.Need-returns
-returns c = broken-ends _ _ _ _ _ (c .before .before .before .before .before .before .before .before .before .before .before .before .before .before .before .before .before .before .before .before .before .pre .1) _ (c .before .before .before .judge .ensures) _ _ (c .before .enum-told2 .given .1) (c .fault-in .ensures)
+returns c = broken-ends _ _ _ _ _ (c .before .before .before .before .before .before .before .before .before .before .before .before .before .before .before .before .before .before .before .before .before .pre .1) _ (c .before .before .before .judge .ensures) _ _ _ (c .before .enum-told2 .given .1) (c .fault-in .ensures)
 
 -- src/finish.rt:97:9
 is-complete-requires : tie.Need-is-complete-requires
@@ -96,6 +96,10 @@ returns-3 c =
     over-ends _ _ _ _ _ (c .before .before .before .before .before .before .before .before .before .before .before .before .before .before .before .before .before .before .before .before .before .before .before .before .pre .1) _ (c .before .before .before .before .before .before .judge .ensures) (c .before .before .before .before .enum-told .given .1) _ (c .before .before .before .is-complete .ensures) (not-false _ (c .before .before .if1 .left)) _
     (c .before .is-within .ensures) (not-true _ (c .if2 .taken))
 
+-- src/finish.rt:103:9
+is-placed-requires : tie.Need-is-placed-requires
+is-placed-requires c κs = search needs
+
 -- src/finish.rt:104:9
 same-length-7 : tie.Need-same-length-7
 same-length-7 c = search needs
@@ -105,22 +109,18 @@ same-length-8 : tie.Need-same-length-8
 same-length-8 c = search needs
 
 -- src/finish.rt:104:9
-returns-4 : tie.Need-returns-4
-returns-4 c =
-    short-ends _ _ _ _ _ (c .before .before .before .before .before .before .before .before .before .before .before .before .before .before .before .before .before .before .before .before .before .before .before .before .before .pre .1) _ (c .before .before .before .before .before .before .before .judge .ensures) (c .before .before .before .before .before .enum-told .given .1) _ (c .before .before .before .before .is-complete .ensures) (not-false _ (c .before .before .before .if1 .left)) _
-    (c .before .before .is-within .ensures) (not-false _ (c .before .if2 .left)) (c .if3 .taken)
-
--- src/finish.rt:106:5
-copy-requires : tie.Need-copy-requires
-copy-requires c κs = c .before .if3 .left
-
--- src/finish.rt:107:21
-cast-t28 : tie.Need-cast-t28
-cast-t28 c = omega (arith, short-table _ _ _ _ (c .before .before .before .before .before .before .before .before .before .before .before .before .before .before .before .before .before .before .before .before .before .before .before .before .before .before .before .before .before .pre .1))
-
--- src/finish.rt:76:1
 same-length-9 : tie.Need-same-length-9
 same-length-9 c = search needs
+
+-- src/finish.rt:104:9
+returns-4 : tie.Need-returns-4
+returns-4 c =
+    short-ends _ _ _ _ _ (c .before .before .before .before .before .before .before .before .before .before .before .before .before .before .before .before .before .before .before .before .before .before .before .before .before .before .before .before .before .pre .1) _ (c .before .before .before .before .before .before .before .before .before .before .before .judge .ensures) (c .before .before .before .before .before .before .before .before .before .enum-told .given .1) _ (c .before .before .before .before .before .before .before .before .is-complete .ensures) (not-false _ (c .before .before .before .before .before .before .before .if1 .left)) _
+    (c .before .before .before .before .before .before .is-within .ensures) (not-false _ (c .before .before .before .before .before .if2 .left)) _ _ (c .before .before .before .is-placed .ensures) (not-true _ (c .if3 .taken))
+
+-- src/finish.rt:107:21
+cast-t27 : tie.Need-cast-t27
+cast-t27 c = omega (arith, short-table _ _ _ _ (c .before .before .before .before .before .before .before .before .before .before .before .before .before .before .before .before .before .before .before .before .before .before .before .before .before .before .before .before .before .pre .1))
 
 -- src/finish.rt:76:1
 same-length-10 : tie.Need-same-length-10
@@ -131,10 +131,14 @@ same-length-11 : tie.Need-same-length-11
 same-length-11 c = search needs
 
 -- src/finish.rt:76:1
+same-length-12 : tie.Need-same-length-12
+same-length-12 c = search needs
+
+-- src/finish.rt:76:1
 returns-5 : tie.Need-returns-5
 returns-5 c =
     done-ends _ _ _ _ _ (c .before .before .before .before .before .before .before .before .before .before .before .before .before .before .before .before .before .before .before .before .before .before .before .before .before .before .before .before .before .pre .1) _ (c .before .before .before .before .before .before .before .before .before .before .before .judge .ensures) (c .before .before .before .before .before .before .before .before .before .enum-told .given .1) _ (c .before .before .before .before .before .before .before .before .is-complete .ensures) (not-false _ (c .before .before .before .before .before .before .before .if1 .left)) _
-    (c .before .before .before .before .before .before .is-within .ensures) (not-false _ (c .before .before .before .before .before .if2 .left)) (c .before .before .before .before .if3 .left) _ (c .before .before .copy .ensures)
+    (c .before .before .before .before .before .before .is-within .ensures) (not-false _ (c .before .before .before .before .before .if2 .left)) _ _ (c .before .before .before .is-placed .ensures) (not-false _ (c .if3 .left))
 
 pub finish-spec : {M : Type 1} → statement M
 finish-spec =
@@ -158,12 +162,13 @@ finish-spec =
     same-length-5
     same-length-6
     returns-3
+    is-placed-requires
     same-length-7
     same-length-8
-    returns-4
-    copy-requires
-    cast-t28
     same-length-9
+    returns-4
+    cast-t27
     same-length-10
     same-length-11
+    same-length-12
     returns-5)

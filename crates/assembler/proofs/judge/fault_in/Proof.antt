@@ -22,7 +22,7 @@ returns c = sym (ap faultIn (c .enum-told .given .1))
 
 -- src/judge.rt:30:1
 returns-2 : tie.Need-returns-2
-returns-2 c = search needs
+returns-2 c = sym (ap faultIn (c .before .v .given .1))
 
 pub fault-in-spec : {M : Type 1} → statement M
 fault-in-spec = tie.close (tie.spec enum-told enum-known-v returns returns-2)

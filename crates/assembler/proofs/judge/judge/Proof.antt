@@ -18,6 +18,7 @@ use Rattle.asm_cards.proofs.card_of.Reads as card-of-reads
 use Rattle.asm_cards.proofs.is_closing.Reads as is-closing-reads
 use Rattle.asm_cards.proofs.past.Reads as past-reads
 use Rattle.asm_reader.proofs.line_end.Reads as line-end-reads
+use Rattle.asm_answers.proofs.verdict.verdict_of.Reads as verdict-of-reads
 use Rattle.assembler.proofs.judge.line_fault.Reads as line-fault-reads
 
 abbrev Inv-loop : tie.InvT-loop
@@ -68,9 +69,21 @@ line-fault-requires : tie.Need-line-fault-requires Inv-loop μ-loop
 line-fault-requires c κs =
     (c .before .before .before .before .before .before .before .before .before .before .before .pre .0, c .before .before .before .before .before .before .before .before .before .before .before .pre .1 .symbolic, c .before .before .before .before .before .before .before .before .before .before .before .pre .1 .known, place-below _ _ _ _ _ _ (c .before .before .before .before .before .loop .inv) (c .before .before .before .before .loop-test .taken) (c .before .before .before .line-end .ensures .0) _ (c .before .card-of .ensures))
 
+-- src/judge.rt:71:17
+verdict-of-requires : tie.Need-verdict-of-requires Inv-loop μ-loop
+verdict-of-requires c κs = search needs
+
+-- src/judge.rt:72:13
+enum-told : tie.Need-enum-told Inv-loop μ-loop
+enum-told c = search needs
+
+-- src/judge.rt:73:20
+enum-told-2 : tie.Need-enum-told-2 Inv-loop μ-loop
+enum-told-2 c = search needs
+
 -- src/judge.rt:85:13
 returns : tie.Need-returns Inv-loop μ-loop
-returns c a = broken _ _ _ _ _ _ (c .before .before .before .before .before .before .before .loop .inv) (c .before .before .before .before .before .before .loop-test .taken) (c .before .before .before .before .before .line-end .ensures .0) _ (c .before .before .before .card-of .ensures) _ (c .before .line-fault .ensures _) (c .if1 .taken) a
+returns c a = broken _ _ _ _ _ _ (c .before .before .before .before .before .before .before .before .before .loop .inv) (c .before .before .before .before .before .before .before .before .loop-test .taken) (c .before .before .before .before .before .before .before .line-end .ensures .0) _ (c .before .before .before .before .before .card-of .ensures) _ (c .before .before .before .line-fault .ensures _) _ (c .before .before .verdict-of .ensures) _ _ (c .enum-told2 .given .1) a
 
 -- src/judge.rt:90:12
 is-closing-requires : tie.Need-is-closing-requires Inv-loop μ-loop
@@ -78,42 +91,42 @@ is-closing-requires c κs = search needs
 
 -- src/judge.rt:91:13
 returns-2 : tie.Need-returns-2 Inv-loop μ-loop
-returns-2 c a = closes _ _ _ _ _ _ (c .before .before .before .before .before .before .before .before .before .loop .inv) (c .before .before .before .before .before .before .before .before .loop-test .taken) (c .before .before .before .before .before .before .before .line-end .ensures .0) _ (c .before .before .before .before .before .card-of .ensures) _ (c .before .before .before .line-fault .ensures _) (c .before .before .if1 .left) (sym (c .before .is-closing .ensures) ∙ c .if2 .taken) a
+returns-2 c a = closes _ _ _ _ _ _ (c .before .before .before .before .before .before .before .before .before .before .before .loop .inv) (c .before .before .before .before .before .before .before .before .before .before .loop-test .taken) (c .before .before .before .before .before .before .before .before .before .line-end .ensures .0) _ (c .before .before .before .before .before .before .before .card-of .ensures) _ (c .before .before .before .before .before .line-fault .ensures _) _ (c .before .before .before .before .verdict-of .ensures) (c .before .before .enum-told .given .1) (sym (c .before .is-closing .ensures) ∙ c .if1 .taken) a
 
 -- src/judge.rt:93:21
 sub-past : tie.Need-sub-past Inv-loop μ-loop
-sub-past c = omega (arith, c .before .before .before .before .before .before .before .line-end .ensures .0)
+sub-past c = omega (arith, c .before .before .before .before .before .before .before .before .before .line-end .ensures .0)
 
 -- src/judge.rt:93:21
 part-past-start : tie.Need-part-past-start Inv-loop μ-loop
-part-past-start c = omega (arith, c .before .before .before .before .before .before .before .line-end .ensures .0)
+part-past-start c = omega (arith, c .before .before .before .before .before .before .before .before .before .line-end .ensures .0)
 
 -- src/judge.rt:93:21
 part-past-end : tie.Need-part-past-end Inv-loop μ-loop
-part-past-end c = omega (arith, c .before .before .before .before .before .before .before .line-end .ensures .1)
+part-past-end c = omega (arith, c .before .before .before .before .before .before .before .before .before .line-end .ensures .1)
 
 -- src/judge.rt:93:9
 past-requires : tie.Need-past-requires Inv-loop μ-loop
 past-requires c κs =
-    let text = c .before .before .before .before .before .before .before .before .before .before .before .before .before .before .before .before .args .text .now in
-    let i = c .before .before .before .before .before .before .before .before .before .before .loop .from in
-    let e = c .before .before .before .before .before .before .before .before .line-end .result in
-    (counted-more i 32768 _ (omega (arith, c .before .before .before .before .before .before .before .before .before .loop-test .taken, c .before .before .before .before .before .before .before .before .before .before .before .before .before .before .before .before .pre .1 .short)) (counted-here _ _ _ _ _ _ (c .before .before .before .before .before .before .before .before .before .before .loop .inv) (c .before .before .before .before .before .before .before .before .before .loop-test .taken) (c .before .before .before .before .before .before .before .before .line-end .ensures .0) _ (c .before .before .before .before .before .before .card-of .ensures)), omega (arith, length-take (e - i) (drop i text), length-drop i text, c .before .before .before .before .before .before .before .before .before .before .before .before .before .before .before .before .pre .1 .short))
+    let text = c .before .before .before .before .before .before .before .before .before .before .before .before .before .before .before .before .before .before .args .text .now in
+    let i = c .before .before .before .before .before .before .before .before .before .before .before .before .loop .from in
+    let e = c .before .before .before .before .before .before .before .before .before .before .line-end .result in
+    (counted-more i 32768 _ (omega (arith, c .before .before .before .before .before .before .before .before .before .before .before .loop-test .taken, c .before .before .before .before .before .before .before .before .before .before .before .before .before .before .before .before .before .before .pre .1 .short)) (counted-here _ _ _ _ _ _ (c .before .before .before .before .before .before .before .before .before .before .before .before .loop .inv) (c .before .before .before .before .before .before .before .before .before .before .before .loop-test .taken) (c .before .before .before .before .before .before .before .before .before .before .line-end .ensures .0) _ (c .before .before .before .before .before .before .before .before .card-of .ensures)), omega (arith, length-take (e - i) (drop i text), length-drop i text, c .before .before .before .before .before .before .before .before .before .before .before .before .before .before .before .before .before .before .pre .1 .short))
 
 -- src/judge.rt:94:16
 add-from : tie.Need-add-from Inv-loop μ-loop
-add-from c = omega (arith, c .before .before .before .before .before .before .before .before .before .line-end .ensures .1, c .before .before .before .before .before .before .before .before .before .before .before .before .before .before .before .before .before .pre .1 .short)
+add-from c = omega (arith, c .before .before .before .before .before .before .before .before .before .before .before .line-end .ensures .1, c .before .before .before .before .before .before .before .before .before .before .before .before .before .before .before .before .before .before .before .pre .1 .short)
 
 -- src/judge.rt:70:5
 loop-less : tie.Need-loop-less Inv-loop μ-loop
-loop-less c = omega (arith, c .before .before .before .before .before .before .before .before .before .line-end .ensures .0, c .before .before .before .before .before .before .before .before .before .line-end .ensures .1)
+loop-less c = omega (arith, c .before .before .before .before .before .before .before .before .before .before .before .line-end .ensures .0, c .before .before .before .before .before .before .before .before .before .before .before .line-end .ensures .1)
 
 -- src/judge.rt:70:5
 loop-again : tie.Need-loop-again Inv-loop μ-loop
 loop-again c =
-    let text = c .before .before .before .before .before .before .before .before .before .before .before .before .before .before .before .before .before .args .text .now in
-    let d = deckFrom (cardsOf text) (symbolsIn (c .before .before .before .before .before .before .before .before .before .before .before .before .before .before .before .before .before .args .syms .now) (c .before .before .before .before .before .before .before .before .before .before .before .before .before .before .before .before .before .args .n)) (c .before .before .before .before .before .before .before .before .before .before .before .before .before .before .before .before .before .args .table .now) in
-    subst (λ (x : Reader). Judging text d (c .before .before .before .before .before .before .before .before .before .before .before .before .before .before .before .before .before .args .size) x (c .before .before .before .before .before .before .before .before .before .line-end .result + 1)) (sym (c .past .ensures)) (step _ _ _ _ _ _ (c .before .before .before .before .before .before .before .before .before .before .before .loop .inv) (c .before .before .before .before .before .before .before .before .before .before .loop-test .taken) (c .before .before .before .before .before .before .before .before .before .line-end .ensures .0) _ (c .before .before .before .before .before .before .before .card-of .ensures) _ (c .before .before .before .before .before .line-fault .ensures _) (c .before .before .before .before .if1 .left) (sym (c .before .before .before .is-closing .ensures) ∙ c .before .before .if2 .left) (c .before .before .before .before .before .before .before .before .before .line-end .ensures .1))
+    let text = c .before .before .before .before .before .before .before .before .before .before .before .before .before .before .before .before .before .before .before .args .text .now in
+    let d = deckFrom (cardsOf text) (symbolsIn (c .before .before .before .before .before .before .before .before .before .before .before .before .before .before .before .before .before .before .before .args .syms .now) (c .before .before .before .before .before .before .before .before .before .before .before .before .before .before .before .before .before .before .before .args .n)) (c .before .before .before .before .before .before .before .before .before .before .before .before .before .before .before .before .before .before .before .args .table .now) in
+    subst (λ (x : Reader). Judging text d (c .before .before .before .before .before .before .before .before .before .before .before .before .before .before .before .before .before .before .before .args .size) x (c .before .before .before .before .before .before .before .before .before .before .before .line-end .result + 1)) (sym (c .past .ensures)) (step _ _ _ _ _ _ (c .before .before .before .before .before .before .before .before .before .before .before .before .before .loop .inv) (c .before .before .before .before .before .before .before .before .before .before .before .before .loop-test .taken) (c .before .before .before .before .before .before .before .before .before .before .before .line-end .ensures .0) _ (c .before .before .before .before .before .before .before .before .before .card-of .ensures) _ (c .before .before .before .before .before .before .before .line-fault .ensures _) _ (c .before .before .before .before .before .before .verdict-of .ensures) (c .before .before .before .before .enum-told .given .1) (sym (c .before .before .before .is-closing .ensures) ∙ c .before .before .if1 .left) (c .before .before .before .before .before .before .before .before .before .before .before .line-end .ensures .1))
 
 -- src/judge.rt:49:1
 returns-3 : tie.Need-returns-3 Inv-loop μ-loop
@@ -135,6 +148,9 @@ judge-spec =
     part-line-fault-start
     part-line-fault-end
     line-fault-requires
+    verdict-of-requires
+    enum-told
+    enum-told-2
     returns
     is-closing-requires
     returns-2

@@ -1,7 +1,7 @@
 -- `assembler::shape::place_fault` meets its contract: the rules of the place, or those that can be asked.
 -- Assumes nothing.
 use Rattle.language.specs.Fault.{placeFault}
-use Rattle.shape_core.proofs.Tests.{if-no, if-yes}
+use Rattle.base.proofs.Bool.{if-no, if-yes}
 use native.Mathlib.Omega.{arith}
 use mathlib.Core.Path.{sym, _∙_}
 use borrow.Author.Needs.{needs}

@@ -1,7 +1,7 @@
 -- `assembler::shape::shape_fault` meets its contract: a card that holds no place has none.
 -- Assumes nothing.
 use Rattle.language.specs.Fault.{shapeFault}
-use Rattle.shape_core.proofs.Tests.{if-no, if-yes}
+use Rattle.base.proofs.Bool.{if-no, if-yes}
 use borrow.Author.Tests.{not-false, not-true}
 use mathlib.Core.Path.{sym, _∙_}
 use borrow.Author.Needs.{needs}

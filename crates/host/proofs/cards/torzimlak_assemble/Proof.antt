@@ -1,14 +1,14 @@
 -- `host::cards::torzimlak_assemble` meets its contract: the assembler's, with the answer's number.
 -- Assumes nothing.
 use mathlib.Core.Path.{ap, _∙_}
-use Rattle.host_numbers.specs.Numbers.{assembledNumber}
+use Rattle.asm_numbers.specs.Numbers.{assembledNumber}
 use borrow.Author.Needs.{needs}
 use Rattle.host.proofs.cards.torzimlak_assemble.Statement.{statement}
 use Rattle.host.proofs.cards.torzimlak_assemble.Tie as tie
 use Rattle.host.proofs.cards.torzimlak_assemble.Reads as reads
 use Rattle.host.proofs.cards.torzimlak_assemble.Lts as lts
 use Rattle.assembler.proofs.assemble.Reads as assemble-reads
-use Rattle.host_numbers.proofs.number_assembled.Reads as number-assembled-reads
+use Rattle.asm_numbers.proofs.number_assembled.Reads as number-assembled-reads
 
 -- src/cards.rt:49:9
 assemble-requires : tie.Need-assemble-requires

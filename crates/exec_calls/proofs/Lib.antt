@@ -1,0 +1,4 @@
+pub mod Takes
+pub mod Places
+pub mod Linked
+pub mod Called

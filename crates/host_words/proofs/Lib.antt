@@ -1,0 +1,5 @@
+pub mod Answers
+pub mod Begins
+pub mod Freezes
+pub mod Told
+pub mod Resumes

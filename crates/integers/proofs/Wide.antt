@@ -1,0 +1,110 @@
+-- Words as the machine's signed numbers of 64 bits: what its operations ask and what they give.
+-- Assumes nothing.
+use Prim.Native.Nat.{ℕ, zero, suc, _-_, _%_, _^_, _<_}
+use mathlib.Core.Path.{_≡_, refl, sym, ap, _∙_, subst}
+use mathlib.Core.Bool.{true, false}
+use native.Mathlib.Nat.{le-suc, le-trans, div-zero, mod-zero}
+use native.Mathlib.Omega.{arith}
+use lib.Dec.{leb·suc-suc}
+use lib.Bits.{bitAnd, and-mask}
+use lib.IntN.{ℤ, pos, negsuc, negℤ, _+ℤ_, _-ℤ_, _*ℤ_, +ℤ-idl}
+use lib.Signed.{mag, ltZ, leZ, quotZ, remZ, mag-rem}
+use mir.Syntax.{w64}
+use mir.Val.{toZ, ofZ, SFits}
+use mir.Facts.{toZ-pos, toZ-ofZ}
+use borrow.Author.Tests.{ltb-true}
+use Rattle.words.specs.Words.{signed, low, fits}
+use Rattle.integers.proofs.Whole.{signed-pos, by-signed, by-sub, mag-signed, mag-add, mag-neg, mag-mul, mag-quot}
+
+pub wide-pos : (w : ℕ) → w < 2 ^ 32 → toZ w64 w ≡ pos w
+wide-pos w h = toZ-pos w64 (omega arith)
+
+-- a word less 2^32
+pub signed-less : (w : ℕ) → w < 2 ^ 32 → pos w -ℤ pos (2 ^ 32) ≡ negsuc (2 ^ 32 - 1 - w)
+signed-less w h =
+    by-sub (λ (z : ℤ). z ≡ negsuc (2 ^ 32 - 1 - w)) w (2 ^ 32) (λ e. ap negsuc (omega arith))
+    (λ e. absurd (omega arith))
+
+-- the low 32 of 64 bits
+pub low-mask : (x : ℕ) → toZ w64 (bitAnd x (2 ^ 32 - 1)) ≡ pos (x % 2 ^ 32)
+low-mask x = ap (toZ w64) (and-mask x 32) ∙ wide-pos (x % 2 ^ 32) (omega arith)
+
+pub low-bits : (n : ℤ) → mag n < 2 ^ 63 → ofZ w64 n % 2 ^ 32 ≡ low n
+low-bits (pos n) h = refl
+low-bits (negsuc n) h = omega arith
+
+-- the range of a word, below 0 and from 0 on
+pub fits-below : (n : ℤ) → ltZ n (pos 0) ≡ true → leZ (negsuc (2 ^ 31 - 1)) n ≡ fits n
+unfolding fits
+fits-below (pos n) e = absurd (none (ltb-true n 0 e))
+  where
+    none : {n : ℕ} → n < 0 → ⊥
+    none h = omega arith
+fits-below (negsuc n) e = sym (leb·suc-suc n (2 ^ 31 - 1))
+
+pub fits-from : (n : ℤ) → ltZ n (pos 0) ≡ false → ltZ n (pos (2 ^ 31)) ≡ fits n
+unfolding fits
+fits-from (pos n) e = refl
+fits-from (negsuc n) e = cc
+
+-- a word's signed value, back from its bits
+pub signed-back : (w : ℕ) {r : ℤ} → w < 2 ^ 32 → r ≡ signed w → toZ w64 (ofZ w64 r) ≡ signed w
+signed-back w h e =
+    ap (λ (z : ℤ). toZ w64 (ofZ w64 z)) e ∙ toZ-ofZ {w = w64} (record { sfits = omega (arith, mag-signed w h) })
+
+-- an operation of two words, read as signed, whose results have room in 64 bits
+module _ (op : ℤ → ℤ → ℤ) (room : (a b : ℕ) → a < 2 ^ 32 → b < 2 ^ 32 → SFits w64 (op (signed a) (signed b)))
+    (a b : ℕ) {r s : ℤ} (ha : a < 2 ^ 32) (hb : b < 2 ^ 32) (e : r ≡ signed a) (f : s ≡ signed b) where
+  pub machine-fits : SFits w64 (op (toZ w64 (ofZ w64 r)) (toZ w64 (ofZ w64 s)))
+  machine-fits = rw (signed-back a ha e, signed-back b hb f) (room a b ha hb)
+
+  pub machine-value : toZ w64 (ofZ w64 (op (toZ w64 (ofZ w64 r)) (toZ w64 (ofZ w64 s)))) ≡ op (signed a) (signed b)
+  machine-value = rw (signed-back a ha e, signed-back b hb f) (toZ-ofZ (room a b ha hb))
+
+-- the results that have room
+module _ (a b : ℕ) (ha : a < 2 ^ 32) (hb : b < 2 ^ 32) where
+  pub sum-room : SFits w64 (signed a +ℤ signed b)
+  sum-room =
+      record { sfits = omega (arith, mag-add (2 ^ 31) (signed a) (signed b) (mag-signed a ha) (mag-signed b hb)) }
+
+  pub difference-room : SFits w64 (signed a -ℤ signed b)
+  difference-room =
+      record {
+        sfits =
+            omega (
+              arith,
+              mag-add (suc (2 ^ 31)) (signed a) (negℤ (signed b)) (le-trans (mag-signed a ha) (le-suc (2 ^ 31)))
+                  (mag-neg (2 ^ 31) (signed b) (mag-signed b hb)),
+            );
+      }
+
+  pub product-room : SFits w64 (signed a *ℤ signed b)
+  product-room =
+      record { sfits = omega (arith, mag-mul (2 ^ 31) (signed a) (signed b) (mag-signed a ha) (mag-signed b hb)) }
+
+  pub quotient-room : SFits w64 (quotZ (signed a) (signed b))
+  quotient-room = record { sfits = omega (arith, mag-quot (2 ^ 31) (signed a) (signed b) (mag-signed a ha)) }
+
+  pub remainder-room : SFits w64 (remZ (signed a) (signed b))
+  remainder-room = record { sfits = omega (arith, mag-rem (signed a) (signed b), mag-signed a ha) }
+
+-- a word that is not 0 has bits that are not 0
+pub bits-pos : (w : ℕ) {r : ℤ} → (w ≡ 0 → ⊥) → w < 2 ^ 32 → r ≡ signed w → 0 < ofZ w64 r
+bits-pos w n h e =
+    subst (λ (z : ℤ). 0 < ofZ w64 z) (sym e)
+    (by-signed (λ (z : ℤ). 0 < ofZ w64 z) w (λ k. omega arith) (λ k. omega arith))
+
+-- zero as a word, and division by it
+pub signed-zero : {w : ℕ} → w ≡ 0 → signed w ≡ pos 0
+signed-zero e = ap signed e ∙ signed-pos 0 (omega arith)
+
+pub zero-less : (w : ℕ) → signed 0 -ℤ signed w ≡ negℤ (signed w)
+zero-less w = ap (λ (z : ℤ). z -ℤ signed w) (signed-zero refl) ∙ +ℤ-idl (negℤ (signed w))
+
+pub quot-zero : (x : ℤ) → quotZ x (pos 0) ≡ pos 0
+quot-zero (pos a) = ap pos (div-zero a)
+quot-zero (negsuc a) = ap (λ (z : ℕ). negℤ (pos z)) (div-zero (suc a))
+
+pub rem-zero : (x : ℤ) → remZ x (pos 0) ≡ x
+rem-zero (pos a) = ap pos (mod-zero a)
+rem-zero (negsuc a) = ap (λ (z : ℕ). negℤ (pos z)) (mod-zero (suc a))
