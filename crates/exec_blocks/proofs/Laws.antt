@@ -7,7 +7,7 @@ use mathlib.Core.List.{List}
 use Rattle.base.specs.Test.{Ok, _and_}
 use Rattle.base.proofs.Bool.{and-l, and-r, ok-le, true-ok}
 use Rattle.rules.specs.Exec.{charsFit}
-use Rattle.exec_loops.specs.Loops.{Within}
+use Rattle.block_chars.specs.Chars.{Within}
 use Rattle.exec_blocks.specs.Blocks.{wordsFit}
 
 -- ranges that the tests find to fit

@@ -10,42 +10,19 @@ ghost use Rattle.ops.specs.Format.{placeKind};
 ghost use Rattle.ops.specs.Ops as Op;
 ghost use Rattle.rules.specs.Table.{entryAt};
 ghost use Rattle.rules.specs.Effect.{shown};
-ghost use Rattle.rules.specs.Exec.{charsFit};
 ghost use Rattle.exec_core.specs.Views.{does, branches, wayOf};
 ghost use Rattle.exec_core.specs.Entry.{Entry, readable, isPlace, going};
 ghost use Rattle.exec_blocks.specs.Blocks.{wordsFit, leaving};
+use block_chars::both_fit;
+use block_copy::move_chars;
+use block_copy::move_words;
+use block_order::order_chars;
+use block_translate::translate;
 use exec_core::Answer;
 use exec_core::operands::index;
-use exec_core::operands::sum;
 use exec_core::operands::to_first;
 use exec_core::operands::to_second;
-use exec_loops::copy_words;
-use exec_loops::move_chars;
-use exec_loops::order_chars;
-use exec_loops::translate;
 use ops::constants::Machine;
-
-// Bytes of a word, as a wide number.
-const CFP_B: u64 = Machine::CFP_B as u64;
-
-// Whether n characters from the address a on lie in memory.
-fn chars_fit(m: &[u32], a: u32, n: u32) -> bool
-    requires { ⌜ length (now m) ≤ maxMemory ⌝ }
-    ensures { λ r. ⌜ r ≡ charsFit (now (m .entry)) a n ⌝ }
-{
-    sum(a, n) <= CFP_B * m.len() as u64
-}
-
-// The same of two ranges.
-fn both_fit(m: &[u32], a: u32, n: u32, e: u32, k: u32) -> bool
-    requires { ⌜ length (now m) ≤ maxMemory ⌝ }
-    ensures { λ r. ⌜ r ≡ (charsFit (now (m .entry)) a n and charsFit (now (m .entry)) e k) ⌝ }
-{
-    if chars_fit(m, a, n) {
-        return chars_fit(m, e, k);
-    }
-    false
-}
 
 // Whether n bytes from the addresses a and e on are whole words of memory.
 fn words_fit(m: &[u32], a: u32, e: u32, n: u32) -> bool
@@ -166,7 +143,7 @@ pub fn mvw(t: &[u32], b: usize, m: &mut [u32], z: &mut [u32; 16], c: usize) -> u
         if index(e / Machine::CFP_B) < c {
             return Answer::CONSTANT_WRITE;
         }
-        copy_words(
+        move_words(
             m,
             index(a / Machine::CFP_B),
             index(e / Machine::CFP_B),

@@ -51,10 +51,10 @@ index-requires-3 c κs = tt
 index-requires-4 : tie.Need-index-requires-4
 index-requires-4 c κs = tt
 
-copy-words-requires : tie.Need-copy-words-requires
-copy-words-requires c κs =
+move-words-requires : tie.Need-move-words-requires
+move-words-requires c κs =
     let q = words-within _ _ _ _ (sym (c .before .before .before .before .before .before .before .words-fit .ensures) ∙ c .before .before .before .before .before .before .if3 .taken) in
-    (omega (arith, q .0, c .before .before .index2 .ensures, c .index4 .ensures), omega (arith, q .1, c .before .index3 .ensures, c .index4 .ensures))
+    (omega (arith, q .0, c .before .before .index2 .ensures, c .index4 .ensures), omega (arith, q .1, c .before .index3 .ensures, c .index4 .ensures), c .before .before .before .before .before .before .before .before .before .before .before .before .before .before .before .before .pre .1)
 
 add-leave : tie.Need-add-leave
 add-leave c = omega (arith, words-within _ _ _ _ (sym (c .before .before .before .before .before .before .before .before .before .before .before .words-fit .ensures) ∙ c .before .before .before .before .before .before .before .before .before .before .if3 .taken) .0, c .before .before .before .before .before .before .before .before .before .before .before .before .before .before .before .before .before .before .before .before .pre .1)
@@ -73,7 +73,7 @@ same-length-2 c = search needs
 
 returns-4 : tie.Need-returns-4
 unfolding mvwOf ranged wordsFit if
-returns-4 c = rw (eq-eqb _ _ (c .before .before .before .before .before .before .before .before .before .before .before .before .before .before .before .if1 .left), ne-eqb _ _ (c .before .before .before .before .before .before .before .before .before .before .before .before .before .before .if2 .left), ← c .before .before .before .before .before .before .before .before .before .before .before .before .words-fit .ensures, c .before .before .before .before .before .before .before .before .before .before .before .if3 .taken, le-ltb _ _ (rw (c .before .before .before .before .before .before .before .before .before .before .index .ensures) at (c .before .before .before .before .before .before .before .before .before .if4 .left)), c .leave .ensures, c .before .before .before .before .copy-words .ensures, c .before .before .before .before .before .before .before .index2 .ensures, c .before .before .before .before .before .before .index3 .ensures, c .before .before .before .before .before .index4 .ensures)
+returns-4 c = rw (eq-eqb _ _ (c .before .before .before .before .before .before .before .before .before .before .before .before .before .before .before .if1 .left), ne-eqb _ _ (c .before .before .before .before .before .before .before .before .before .before .before .before .before .before .if2 .left), ← c .before .before .before .before .before .before .before .before .before .before .before .before .words-fit .ensures, c .before .before .before .before .before .before .before .before .before .before .before .if3 .taken, le-ltb _ _ (rw (c .before .before .before .before .before .before .before .before .before .before .index .ensures) at (c .before .before .before .before .before .before .before .before .before .if4 .left)), c .leave .ensures, c .before .before .before .before .move-words .ensures, c .before .before .before .before .before .before .before .index2 .ensures, c .before .before .before .before .before .before .index3 .ensures, c .before .before .before .before .before .index4 .ensures)
 
 same-length-3 : tie.Need-same-length-3
 same-length-3 c = search needs
@@ -99,7 +99,7 @@ mvw-spec =
     index-requires-2
     index-requires-3
     index-requires-4
-    copy-words-requires
+    move-words-requires
     add-leave
     add-leave-2
     leave-requires

@@ -1,0 +1,91 @@
+-- The invariant: a comparison may leave out the words passed. The measure: the words left.
+-- Assumes nothing.
+use Prim.Native.Nat.{_+_, _-_, _*_, _≤_}
+use mathlib.Core.Path.{sym, _∙_}
+use native.Mathlib.Omega.{arith}
+use borrow.Author.Needs.{needs}
+use Rattle.block_order.specs.Skips.{Skips}
+use Rattle.block_order.proofs.Order.{skips-none, skips-more, four-merged}
+use Rattle.block_order.proofs.same_merged.Statement.{statement}
+use Rattle.block_order.proofs.same_merged.Tie as tie
+
+abbrev Inv-loop : tie.InvT-loop
+Inv-loop m f g n r i₀ i = (i ≤ n) × Skips i (4 * f + r) (4 * g) m
+
+abbrev μ-loop : tie.MeasureT-loop
+μ-loop m f g n r i₀ i = n - i
+
+loop-holds : tie.Need-loop-holds Inv-loop μ-loop
+loop-holds c = (omega arith, skips-none _ _ _)
+
+add-merged : tie.Need-add-merged Inv-loop μ-loop
+add-merged c = omega arith
+
+mul-merged : tie.Need-mul-merged Inv-loop μ-loop
+mul-merged c = omega arith
+
+shared-slice-read-merged : tie.Need-shared-slice-read-merged Inv-loop μ-loop
+shared-slice-read-merged c = omega arith
+
+add-merged-2 : tie.Need-add-merged-2 Inv-loop μ-loop
+add-merged-2 c = omega arith
+
+add-merged-3 : tie.Need-add-merged-3 Inv-loop μ-loop
+add-merged-3 c = omega arith
+
+mul-merged-2 : tie.Need-mul-merged-2 Inv-loop μ-loop
+mul-merged-2 c = omega arith
+
+shared-slice-read-merged-2 : tie.Need-shared-slice-read-merged-2 Inv-loop μ-loop
+shared-slice-read-merged-2 c = omega arith
+
+merged-requires : tie.Need-merged-requires Inv-loop μ-loop
+merged-requires c κs = search needs
+
+add-if1 : tie.Need-add-if1 Inv-loop μ-loop
+add-if1 c = omega arith
+
+mul-if1 : tie.Need-mul-if1 Inv-loop μ-loop
+mul-if1 c = omega arith
+
+shared-slice-read-if1 : tie.Need-shared-slice-read-if1 Inv-loop μ-loop
+shared-slice-read-if1 c = omega arith
+
+returns : tie.Need-returns Inv-loop μ-loop
+returns c = c .before .before .before .before .before .before .loop .inv
+
+add-i : tie.Need-add-i Inv-loop μ-loop
+add-i c = omega arith
+
+loop-less : tie.Need-loop-less Inv-loop μ-loop
+loop-less c = omega arith
+
+loop-again : tie.Need-loop-again Inv-loop μ-loop
+loop-again c = (omega arith, skips-more (c .before .before .before .before .before .before .loop .i) (4 * c .before .before .before .before .before .before .before .before .args .f + c .before .before .before .before .before .before .before .before .args .r) (4 * c .before .before .before .before .before .before .before .before .args .g) (c .before .before .before .before .before .before .before .before .args .m .now) (c .before .before .before .before .before .before .loop .inv .1) (four-merged (c .before .before .before .before .before .before .before .before .args .m .now) (c .before .before .before .before .before .before .before .before .args .f + c .before .before .before .before .before .before .loop .i) (c .before .before .before .before .before .before .before .before .args .g + c .before .before .before .before .before .before .loop .i) (c .before .before .before .before .before .before .before .before .args .r) (4 * c .before .before .before .before .before .before .before .before .args .f + c .before .before .before .before .before .before .before .before .args .r + 4 * c .before .before .before .before .before .before .loop .i) (4 * c .before .before .before .before .before .before .before .before .args .g + 4 * c .before .before .before .before .before .before .loop .i) (c .before .before .before .before .before .before .before .before .pre .2) (c .before .before .before .before .before .before .before .before .pre .3) (omega arith) (omega arith) (c .before .before .before .before .before .before .before .shared-slice-known .given (c .before .before .before .before .before .before .before .before .args .f + c .before .before .before .before .before .before .loop .i) .fits) (sym (c .before .before .merged .ensures) ∙ c .if1 .left)))
+
+returns-2 : tie.Need-returns-2 Inv-loop μ-loop
+returns-2 c = c .before .loop .inv
+
+pub same-merged-spec : {M : Type 1} → statement M
+same-merged-spec =
+    tie.close
+    (tie.spec
+    Inv-loop
+    μ-loop
+    loop-holds
+    add-merged
+    mul-merged
+    shared-slice-read-merged
+    add-merged-2
+    add-merged-3
+    mul-merged-2
+    shared-slice-read-merged-2
+    merged-requires
+    add-if1
+    mul-if1
+    shared-slice-read-if1
+    returns
+    add-i
+    loop-less
+    loop-again
+    returns-2)
