@@ -14,7 +14,7 @@
  * is lent to no other.
  *
  * Nothing is allocated: a call works on the stack, torzimlak_assemble on about 1.1 MB of it, so that its thread should have 2 MB, and each
- * other function on less than 32 KB (TORZIMLAK_ASSEMBLE_STACK and TORZIMLAK_STACK below). Frames over a page are taken page by page,
+ * other function on less than 40 KB (TORZIMLAK_ASSEMBLE_STACK and TORZIMLAK_STACK below). Frames over a page are taken page by page,
  * downwards, so that a stack that is too short faults in its guard page, if it has one, before anything behind that is written.
  *
  * Answers are the numbers of the papers: 0 done, 1 to 10, 30 to 33 and 40 to 45 refusals, 20 to 29 endings of a run. Where there is a
@@ -69,13 +69,13 @@ enum {
 };
 
 /*
- * Bytes of stack that are enough for a call of torzimlak_assemble, and of each other function. The code itself takes at most 1,075,816
- * bytes, torzimlak_run 16,376, torzimlak_resume 16,200, each other function under 14,300; the rest is for memcpy and memset, of which a
+ * Bytes of stack that are enough for a call of torzimlak_assemble, and of each other function. The code itself takes at most 1,078,952
+ * bytes, torzimlak_run 20,568, torzimlak_resume 19,368, each other function under 18,500; the rest is for memcpy and memset, of which a
  * loader that binds them at their first call takes some thousands.
  */
 enum {
     TORZIMLAK_ASSEMBLE_STACK = 1114112,
-    TORZIMLAK_STACK = 32768
+    TORZIMLAK_STACK = 40960
 };
 
 /*
