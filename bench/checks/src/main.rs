@@ -4,7 +4,7 @@
 use std::hint::black_box;
 use torzimlak::sys::{check_state, check_table};
 use torzimlak_bench::state::{plain, state, with, COUNT, FLAG, LINKS, PLACE, WAITING, WORDS};
-use torzimlak_bench::tables::{full, switch, Full, Switch};
+use torzimlak_bench::tables::{empty_switches, full, one_remainder, switch, Full, Switch, AROUND, ENTRIES, LIMIT};
 use torzimlak_bench::{rounds, used, Goal, Measure, Measures, Times};
 use torzimlak_plain::{check, machine};
 
@@ -14,6 +14,8 @@ const MEMORY: usize = 8192;
 const ROUNDS: usize = 201;
 
 const TABLE_GOAL: Goal = Goal::Time(20_000.0);
+/// Tables that a stranger may make.
+const STRANGE_GOAL: Goal = Goal::Time(60_000.0);
 const STATE_GOAL: Goal = Goal::Time(2_000.0);
 
 /// The 256 links of a procedure that is called from outside and then by itself.
@@ -41,17 +43,23 @@ fn judged(t: &[u32], memory: usize, s: &[u32]) -> u32 {
     number
 }
 
+/// A switch whose last value is its first one again.
+fn twice(t: &Switch) -> Vec<u32> {
+    with(&t.table, t.last_value, t.table[t.first_value])
+}
+
 /// The tables pass, and damaged twins do not.
-fn compare_tables(a: &Full, switches: [&Switch; 2]) {
-    for t in [&a.table, &switches[0].table, &switches[1].table] {
+fn compare_tables(a: &Full, switches: [&Switch; 3], short: &[u32]) {
+    for t in [&a.table[..], &switches[0].table, &switches[1].table, &switches[2].table, short] {
         assert_eq!(t[0], 1024);
         assert!(passes(t));
         assert!(!passes(&t[..t.len() - 1]));
     }
     assert!(!passes(&with(&a.table, a.last_exit, 101)));
     for t in switches {
-        assert!(!passes(&with(&t.table, t.last_value, t.table[t.first_value])));
-        assert!(!passes(&with(&t.table, t.last_value, 8000)));
+        assert!(!passes(&twice(t)));
+        assert!(!passes(&with(&t.table, t.last_value, LIMIT)));
+        assert!(!passes(&with(&t.table, t.first_value, t.table[t.last_value - 80])));
     }
 }
 
@@ -85,7 +93,7 @@ fn show(name: &str, all: &[&Times], difference: bool) {
 }
 
 /// Times the table check.
-fn table_check(measures: &mut Measures, name: &str, t: &[u32]) {
+fn table_check(measures: &mut Measures, name: &str, t: &[u32], goal: Goal) {
     let mut room = t.to_vec();
     let mut copied = || black_box(&mut room).copy_from_slice(black_box(t));
     let mut proved = || used(check_table(black_box(t)));
@@ -93,7 +101,7 @@ fn table_check(measures: &mut Measures, name: &str, t: &[u32]) {
     let [proved, plain, copy] = rounds(ROUNDS, [&mut proved, &mut plain, &mut copied]);
     show(name, &[&proved, &plain, &copy], false);
     let measure = Measure::new("checks", name, proved.median()).plain(plain.median()).copy(copy.median());
-    measures.add(measure.goal(TABLE_GOAL));
+    measures.add(measure.goal(goal));
 }
 
 /// Times the state check, which checks the table first, and what it takes beyond the table check.
@@ -124,17 +132,23 @@ fn state_check(links: &str, t: &[u32], s: &[u32]) -> [Measure; 2] {
 
 fn main() {
     let a = full();
-    let b = switch(|i| i);
-    let c = switch(|i| 1024 + 3 * i);
+    let count = (ENTRIES - AROUND) as u32;
+    let b = switch(&(0..count).collect::<Vec<_>>(), 5000);
+    let c = switch(&(0..count).map(|i| 1024 + 3 * i).collect::<Vec<_>>(), 5000);
+    let d = switch(&one_remainder(count as usize), LIMIT);
+    let short = empty_switches();
     let (shallow, nested) = (state(0, &[]), state(a.inside, &deep(&a)));
-    compare_tables(&a, [&b, &c]);
+    compare_tables(&a, [&b, &c, &d], &short);
     compare_states(&a, &shallow, &nested);
 
     println!("checks: microseconds, least / median of {ROUNDS} rounds: proved | plain | copy");
     let measures = &mut Measures::open();
-    table_check(measures, "check_table, procedures and switches", &a.table);
-    table_check(measures, "check_table, one switch, values below 1,024", &b.table);
-    table_check(measures, "check_table, one switch, values from 1,024", &c.table);
+    table_check(measures, "check_table, procedures and switches", &a.table, TABLE_GOAL);
+    table_check(measures, "check_table, one switch, values below 1,024", &b.table, TABLE_GOAL);
+    table_check(measures, "check_table, one switch, values from 1,024", &c.table, TABLE_GOAL);
+    table_check(measures, "check_table, one switch, one remainder", &d.table, STRANGE_GOAL);
+    table_check(measures, "check_table, one switch, one value twice", &twice(&d), STRANGE_GOAL);
+    table_check(measures, "check_table, many short switches", &short, STRANGE_GOAL);
     state_check("no link", &a.table, &shallow);
     state_check("256 links", &a.table, &nested).into_iter().for_each(|m| measures.add(m));
 }

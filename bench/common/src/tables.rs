@@ -87,6 +87,13 @@ impl Writer {
         self.0.last_mut().unwrap()[7] = three as u32 + 1;
     }
 
+    /// Sections 5 and 6: an entry each, which goes to itself.
+    fn sections(&mut self) {
+        for _ in 0..2 {
+            self.put(BRN, place(self.here()), NONE);
+        }
+    }
+
     /// The table: sections 5 and 6 are the last two entries, and what stands behind them is given.
     fn table(self, counts: [u32; 4], behind: &[u32]) -> Vec<u32> {
         let n = self.here() as u32;
@@ -177,9 +184,7 @@ pub fn filled(entries: usize, procedures: usize, workings: u32) -> Full {
         t.put(MOV, word(30), word(31));
     }
     t.put(BRN, place(0), NONE);
-    for _ in 0..2 {
-        t.put(BRN, place(t.here()), NONE);
-    }
+    t.sections();
     let inner = |i: usize| first(i) + body - CALL_FROM_END;
     let last_exit = HEADER + ENTRY * (inner(procedures - 1) + EXITS as usize);
     let mut behind = vec![4 * 40, 4 * 41, 0, 1];
@@ -218,17 +223,38 @@ pub struct Switch {
     pub last_value: usize,
 }
 
-/// One switch of 1,020 cases, whose values are those of `number`.
-pub fn switch(number: impl Fn(u32) -> u32) -> Switch {
-    let cases = ENTRIES - 4;
+/// Entries of a table of one switch that are no IFF: BSW, ESW and the two sections behind it.
+pub const AROUND: usize = 4;
+
+/// The largest limit of a switch, CFP$M.
+pub const LIMIT: u32 = 2_147_483_647;
+
+/// One switch with these values, below this limit.
+pub fn switch(values: &[u32], limit: u32) -> Switch {
     let mut t = Writer(Vec::new());
-    t.put(BSW, x(XL), value(5000));
-    for i in 0..cases {
-        t.put(IFF, value(number(i as u32)), place(0));
+    t.put(BSW, x(XL), value(limit));
+    for &v in values {
+        t.put(IFF, value(v), place(0));
     }
     t.put(ESW, NONE, NONE);
-    for _ in 0..2 {
-        t.put(BRN, place(t.here()), NONE);
+    t.sections();
+    let last_value = HEADER + ENTRY * values.len() + 3;
+    Switch { table: t.table([0; 4], &[]), first_value: HEADER + ENTRY + 3, last_value }
+}
+
+/// Switches with no case, as many as 1,024 entries hold.
+pub fn empty_switches() -> Vec<u32> {
+    let mut t = Writer(Vec::new());
+    while t.here() + 2 < ENTRIES {
+        t.put(BSW, x(XL), value(LIMIT));
+        t.put(ESW, NONE, NONE);
     }
-    Switch { table: t.table([0; 4], &[]), first_value: HEADER + ENTRY + 3, last_value: HEADER + ENTRY * cases + 3 }
+    t.sections();
+    t.table([0; 4], &[])
+}
+
+/// Values that have one remainder by 1,024, and by any divisor of it, neither rising nor falling.
+pub fn one_remainder(count: usize) -> Vec<u32> {
+    // 389 is a prime that divides none of the counts, so that each number comes once.
+    (0..count).map(|i| 7 + 1024 * (i * 389 % count) as u32).collect()
 }

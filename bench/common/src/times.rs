@@ -39,6 +39,13 @@ fn stretch(call: &mut dyn FnMut(), calls: usize) -> f64 {
     now() - began
 }
 
+/// What a call answers, and its nanoseconds.
+pub fn once<T>(call: impl FnOnce() -> T) -> (T, f64) {
+    let began = now();
+    let answer = black_box(call());
+    (answer, now() - began)
+}
+
 /// How often to call, so that the clock's own time does not matter.
 fn calls_of(call: &mut dyn FnMut()) -> usize {
     let mut calls = 1;

@@ -2,39 +2,39 @@
 
 use std::hint::black_box;
 use torzimlak::sys;
-use torzimlak_bench::{rounds, state, used, Goal, Measure, Measures, Times};
-use torzimlak_plain::{assemble::assemble, machine, Table};
+use torzimlak_bench::{ready, rounds, section_4, state, used, Goal, Measure, Measures, Ready, Times, MEMORY};
+use torzimlak_plain::{machine, Table};
 
-const MEMORY: usize = 8192;
 const STEPS: u32 = 200_000;
 const ROUNDS: usize = 21;
 /// The steps of a run whose instructions are counted.
 const COUNTED: u32 = 100_000;
 
-/// At least 1.3 times as fast on each deck, 1.7 times on the geometric mean.
+/// The decks of MVC and MVW, and all those of operations on blocks.
+const COPIES: [&str; 2] = ["blocks", "moves"];
+const BLOCKS: [&str; 4] = ["blocks", "compare", "moves", "translate"];
+
+/// At least 1.3 times as fast on each other deck, 1.7 times on the geometric mean.
 const DECK_GOAL: Goal = Goal::OfPlain(1.0 / 1.3);
+/// A deck of moves at least as fast: plain Rust moves by memmove and by words.
+const COPY_GOAL: Goal = Goal::OfPlain(1.0);
 const MEAN_GOAL: Goal = Goal::OfPlain(1.0 / 1.7);
 
-/// A program ready to run, for both machines.
-struct Ready {
+/// A deck ready to run.
+struct Deck {
     name: String,
-    table: Vec<u32>,
-    memory: Vec<u32>,
-    state: Vec<u32>,
-    plain: machine::State,
+    ready: Ready,
 }
 
-fn ready(path: &str) -> Ready {
-    let text = std::fs::read(path).unwrap_or_else(|e| panic!("{path}: {e}"));
-    let table = assemble(&text, 20_000).unwrap_or_else(|(n, l)| panic!("{path}: refused {n}, line {l}"));
-    let fresh = vec![1; Table(&table).fresh_count()];
-    let (mut memory, mut other) = (vec![0; MEMORY], vec![0; MEMORY]);
-    let mut state = vec![0; sys::STATE_WORDS];
-    assert_eq!(sys::start(&table, &mut memory, &fresh, 0, &mut state), 0);
-    let plain = machine::start(&table, &mut other, &fresh, 0).unwrap();
-    assert_eq!(memory, other);
+fn deck(path: &str) -> Deck {
+    let cards = std::fs::read(path).unwrap_or_else(|e| panic!("{path}: {e}"));
+    let r = ready(&cards).unwrap_or_else(|(n, l)| panic!("{path}: refused {n}, line {l}"));
+    let fresh = vec![1; Table(&r.table).fresh_count()];
+    let (mut memory, mut state) = (vec![0; MEMORY], vec![0; sys::STATE_WORDS]);
+    assert_eq!(sys::start(&r.table, &mut memory, &fresh, 0, &mut state), 0);
+    assert!(memory == r.memory && state == r.state, "{path}");
     let name = path.rsplit('/').next().unwrap().trim_end_matches(".min").to_string();
-    Ready { name, table, memory, state, plain }
+    Deck { name, ready: r }
 }
 
 /// Apart, so that its instructions can be counted.
@@ -44,22 +44,24 @@ fn plain_run(t: &[u32], m: &mut [u32], s: &mut machine::State, budget: u32) -> (
 }
 
 /// Both machines do the same.
-fn compare(r: &Ready) {
+fn compare(deck: &Deck) {
+    let r = &deck.ready;
     let (mut m, mut s) = (r.memory.clone(), r.state.clone());
-    let (mut pm, mut ps) = (r.memory.clone(), r.plain.clone());
-    assert_eq!(sys::run(&r.table, &mut m, &mut s, STEPS), (21, STEPS), "{}", r.name);
-    assert_eq!(plain_run(&r.table, &mut pm, &mut ps, STEPS), (21, STEPS), "{}", r.name);
-    assert!(m == pm && state::plain(&s) == ps, "{}", r.name);
+    let (mut pm, mut ps) = (r.memory.clone(), r.plain());
+    assert_eq!(sys::run(&r.table, &mut m, &mut s, STEPS), (21, STEPS), "{}", deck.name);
+    assert_eq!(plain_run(&r.table, &mut pm, &mut ps, STEPS), (21, STEPS), "{}", deck.name);
+    assert!(m == pm && state::plain(&s) == ps, "{}", deck.name);
 }
 
 /// Nanoseconds a step of the proved loop and of the plain one. Each round goes on where the last one stopped, and both stop alike.
-fn time(r: &Ready) -> [Times; 2] {
+fn time(deck: &Deck) -> [Times; 2] {
+    let r = &deck.ready;
     let (mut m, mut s) = (r.memory.clone(), r.state.clone());
-    let (mut pm, mut ps) = (r.memory.clone(), r.plain.clone());
+    let (mut pm, mut ps) = (r.memory.clone(), r.plain());
     let mut proved = || used(sys::run(&r.table, &mut m, &mut s, STEPS));
     let mut plain = || used(plain_run(&r.table, &mut pm, &mut ps, STEPS));
     let times = rounds(ROUNDS, [&mut proved, &mut plain]);
-    assert!(m == pm && state::plain(&s) == ps, "{}", r.name);
+    assert!(m == pm && state::plain(&s) == ps, "{}", deck.name);
     times.map(|t| t.over(STEPS as f64))
 }
 
@@ -69,7 +71,7 @@ fn mean<'a>(measures: &mut Measures, name: &str, decks: impl Iterator<Item = &'a
     let mean = |logs: f64| (logs / times.len() as f64).exp();
     let proved = mean(times.iter().map(|t| t.0.ln()).sum());
     let plain = mean(times.iter().map(|t| t.1.ln()).sum());
-    println!("{name:<32} {proved:16.2} | {plain:16.2} | {:12.2}", plain / proved);
+    println!("{name:<40} {proved:16.2} | {plain:16.2} | {:12.2}", plain / proved);
     measures.add(Measure::new("steps", name, proved).plain(plain).goal(MEAN_GOAL));
 }
 
@@ -80,26 +82,27 @@ fn decks(measures: &mut Measures, paths: &[String]) {
     );
     let mut all = vec![];
     for path in paths {
-        let r = ready(path);
-        compare(&r);
-        let [proved, plain] = time(&r);
+        let d = deck(path);
+        compare(&d);
+        let [proved, plain] = time(&d);
         let both = |t: &Times| format!("{:7.2} /{:7.2}", t.least(), t.median());
         let faster = [plain.least() / proved.least(), plain.median() / proved.median()];
-        println!("{:<32} {} | {} | {:5.2} /{:5.2}", r.name, both(&proved), both(&plain), faster[0], faster[1]);
-        let measure = Measure::new("steps", r.name, proved.median()).plain(plain.median()).goal(DECK_GOAL);
+        println!("{:<40} {} | {} | {:5.2} /{:5.2}", d.name, both(&proved), both(&plain), faster[0], faster[1]);
+        let goal = if COPIES.contains(&d.name.as_str()) { COPY_GOAL } else { DECK_GOAL };
+        let measure = Measure::new("steps", d.name, proved.median()).plain(plain.median()).goal(goal);
         measures.add(measure.clone());
         all.push(measure);
     }
     mean(measures, "geometric mean", all.iter());
-    mean(measures, "geometric mean without blocks", all.iter().filter(|m| m.name != "blocks"));
+    let without = |m: &&Measure| !BLOCKS.contains(&m.name.as_str());
+    mean(measures, "geometric mean without block operations", all.iter().filter(without));
 }
 
 /// A table of 1,024 entries that loops.
 fn full_table() -> Vec<u32> {
-    let mut deck = " SEC\n SEC\n SEC\n SEC\n SEC\nSTART ICV WA\n".to_string();
-    deck.push_str(&" ADD WA,WB\n BEQ WA,WB,START\n MOV (XL),WC\n".repeat(340));
-    deck.push_str(" BRN START\n SEC\n ERB 1,FULL\n SEC\n ERB 2,BAD\n END\n");
-    assemble(deck.as_bytes(), 20_000).expect("a lawful deck")
+    let turn = " ADD WA,WB\n BEQ WA,WB,START\n MOV (XL),WC\n";
+    let cards = section_4(&format!("START ICV WA\n{} BRN START\n", turn.repeat(340)));
+    ready(cards.as_bytes()).expect("a lawful deck").table
 }
 
 /// One call of run with budget 1 on a full table, which checks the table and the state.
@@ -123,7 +126,7 @@ fn one_step(measures: &mut Measures) {
     );
     println!("\na table of {} entries, microseconds a call, least / median", table[0]);
     for (name, t) in [("check_state", &check), ("run, budget 1", &run), ("plain run, budget 1", &plain)] {
-        println!("{name:<32} {:7.2} /{:7.2}", t.least() / 1e3, t.median() / 1e3);
+        println!("{name:<40} {:7.2} /{:7.2}", t.least() / 1e3, t.median() / 1e3);
     }
     measures.add(Measure::new("steps", "a call of run, budget 1, 1,024 entries", run.median()).plain(plain.median()));
 }
@@ -132,12 +135,13 @@ fn main() {
     let args: Vec<String> = std::env::args().skip(1).collect();
     match args.first().map(String::as_str) {
         Some("proved") => {
-            let mut r = ready(&args[1]);
+            let mut r = deck(&args[1]).ready;
             black_box(sys::run(&r.table, &mut r.memory, &mut r.state, COUNTED));
         }
         Some("plain") => {
-            let mut r = ready(&args[1]);
-            black_box(plain_run(&r.table, &mut r.memory, &mut r.plain, COUNTED));
+            let mut r = deck(&args[1]).ready;
+            let mut state = r.plain();
+            black_box(plain_run(&r.table, &mut r.memory, &mut state, COUNTED));
         }
         _ => {
             let measures = &mut Measures::open();
