@@ -1,3 +1,4 @@
+pub mod Four
 pub mod Whole
 pub mod Merge
 pub mod Repeat

@@ -12,7 +12,8 @@ use Rattle.rules.specs.Operand.{charIn, withChar}
 use Rattle.rules.specs.Exec.{copiedChars, copiedWords}
 use Rattle.block_chars.specs.Chars.{Within}
 use Rattle.block_chars.proofs.Laws.{AllWords, length-withChar, char-lt, stored, elsewhere}
-use Rattle.block_copy.proofs.Whole.{same-counts, copied-split, copied-aligned}
+use Rattle.block_copy.proofs.Four.{same-counts}
+use Rattle.block_copy.proofs.Whole.{copied-split, copied-aligned}
 
 -- what is below the target stays
 below : (n f g : ℕ) (m : List ℕ) (e : ℕ) → Within m g n → e < g → charIn (copiedChars n f g m) e ≡ charIn m e

@@ -8,14 +8,16 @@ use native.Mathlib.Omega.{arith}
 use native.Mathlib.Numerals.{add-one, sub-one}
 use lib.Dec.{eqb}
 use lib.ListN.{length, set, length-set}
-use lib.Seq.{set-set, set-getD, getD-set-same, getD-set-other}
+use lib.Seq.{getD-set-same, getD-set-other}
 use borrow.Author.Tests.{eqb-true, eqb-false}
 use Rattle.base.specs.Lists.{_at_}
-use Rattle.words.specs.Words.{byteOf, withByte}
-use Rattle.words.proofs.Laws.{byteOf-lt, byteOf-withByte-same, byteOf-withByte-other, withByte-lt}
+use Rattle.words.specs.Words.{byteOf}
+use Rattle.words.proofs.Laws.{byteOf-lt, wordOf-bytes}
 use Rattle.rules.specs.Operand.{charIn, withChar}
 use Rattle.rules.specs.Exec.{copiedChars, copiedWords}
-use Rattle.block_chars.proofs.Laws.{AllWords, same-bytes, char-of, with-of}
+use Rattle.block_chars.proofs.Laws.{AllWords}
+use Rattle.block_chars.proofs.Merge.{one, two, three, after-one, after-two, after-three, read}
+use Rattle.block_copy.proofs.Four.{same-counts, put-four}
 
 -- a word, a character copied
 pub copied-word : (n f g : ℕ) (m : List ℕ) → 0 < n → copiedWords n f g m ≡ copiedWords (n - 1) (f + 1) (g + 1) (set m g (m at f))
@@ -39,76 +41,27 @@ unfolding copiedChars
 copied-chars-none zero f g m h = refl
 copied-chars-none (suc n) f g m h = absurd (omega arith)
 
--- o with its characters replaced by those of w, from the lowest on
-abbrev first : ℕ → ℕ → ℕ
-first o w = withByte o 0 (byteOf w 0)
-
-abbrev second : ℕ → ℕ → ℕ
-second o w = withByte (first o w) 1 (byteOf w 1)
-
-abbrev third : ℕ → ℕ → ℕ
-third o w = withByte (second o w) 2 (byteOf w 2)
-
-abbrev fourth : ℕ → ℕ → ℕ
-fourth o w = withByte (third o w) 3 (byteOf w 3)
-
-put : (o w k : ℕ) → byteOf (withByte o k (byteOf w k)) k ≡ byteOf w k
-put o w k = byteOf-withByte-same o k (byteOf-lt w k)
-
-past : (o w k j : ℕ) → (j ≡ k → ⊥) → byteOf (withByte o k (byteOf w k)) j ≡ byteOf o j
-past o w k j h = byteOf-withByte-other o k (byteOf-lt w k) h
-
-bounded : (o w k : ℕ) → k < 4 → o < 2 ^ 32 → withByte o k (byteOf w k) < 2 ^ 32
-bounded o w k h l = withByte-lt o k l h (byteOf-lt w k)
-
-fourth-is : (o w : ℕ) → o < 2 ^ 32 → w < 2 ^ 32 → fourth o w ≡ w
-fourth-is o w h k =
-    same-bytes (fourth o w) w
-    (bounded (third o w) w 3 (omega arith) (bounded (second o w) w 2 (omega arith) (bounded (first o w) w 1 (omega arith) (bounded o w 0 (omega arith) h))))
-    k
-    (past (third o w) w 3 0 (λ e. omega arith) ∙ past (second o w) w 2 0 (λ e. omega arith) ∙ past (first o w) w 1 0 (λ e. omega arith) ∙ put o w 0)
-    (past (third o w) w 3 1 (λ e. omega arith) ∙ past (second o w) w 2 1 (λ e. omega arith) ∙ put (first o w) w 1)
-    (past (third o w) w 3 2 (λ e. omega arith) ∙ put (second o w) w 2)
-    (put (third o w) w 3)
-
--- a word whose character k stays has it, wherever it is read from
-kept-char : (m : List ℕ) (f g w k : ℕ) → g < length m → byteOf w k ≡ byteOf (m at g) k → byteOf (set m g w at f) k ≡ byteOf (m at f) k
-kept-char m f g w k l e = go (eqb f g) refl
-  where
-    go : (t : Bool) → eqb f g ≡ t → byteOf (set m g w at f) k ≡ byteOf (m at f) k
-    go true h = rw (eqb-true f g h, getD-set-same m g w 0 l) e
-    go false h = ap (λ (v : ℕ). byteOf v k) (getD-set-other m g f w 0 (eqb-false f g h))
-
--- character k of word f copied to word g, which is w so far
-module _ (m : List ℕ) (f g : ℕ) (l : g < length m) where
-  char-step : (w k : ℕ) → k < 4 → byteOf w k ≡ byteOf (m at g) k → withChar (set m g w) (4 * g + k) (charIn (set m g w) (4 * f + k)) ≡ set m g (withByte w k (byteOf (m at f) k))
-  char-step w k h e =
-      with-of (set m g w) g k (charIn (set m g w) (4 * f + k)) h
-      ∙ set-set m g w (withByte (set m g w at g) k (charIn (set m g w) (4 * f + k)))
-      ∙ ap (λ (v : ℕ). set m g (withByte v k (charIn (set m g w) (4 * f + k)))) (getD-set-same m g w 0 l)
-      ∙ ap (λ (b : ℕ). set m g (withByte w k b)) (char-of (set m g w) f k h ∙ kept-char m f g w k l e)
-
-  copy-step : (n w k : ℕ) → k < 4 → byteOf w k ≡ byteOf (m at g) k → copiedChars (suc n) (4 * f + k) (4 * g + k) (set m g w) ≡ copiedChars n (4 * f + (k + 1)) (4 * g + (k + 1)) (set m g (withByte w k (byteOf (m at f) k)))
-  unfolding copiedChars
-  copy-step n w k h e =
-      ap (λ (y : List ℕ). copiedChars n (suc (4 * f + k)) (suc (4 * g + k)) y) (char-step w k h e)
-      ∙ ap (λ (i : ℕ). copiedChars n i (suc (4 * g + k)) (set m g (withByte w k (byteOf (m at f) k)))) (next f k)
-      ∙ ap (λ (i : ℕ). copiedChars n (4 * f + (k + 1)) i (set m g (withByte w k (byteOf (m at f) k)))) (next g k)
-    where
-      next : (i k : ℕ) → suc (4 * i + k) ≡ 4 * i + (k + 1)
-      next i k = omega arith
-
-  -- four characters are the word
-  copied-four : (n : ℕ) → m at f < 2 ^ 32 → m at g < 2 ^ 32 → copiedChars (suc (suc (suc (suc n)))) (4 * f + 0) (4 * g + 0) m ≡ copiedChars n (4 * f + 4) (4 * g + 4) (set m g (m at f))
-  copied-four n h k =
-      let o = m at g in
-      let w = m at f in
-      ap (λ (y : List ℕ). copiedChars (suc (suc (suc (suc n)))) (4 * f + 0) (4 * g + 0) y) (sym (set-getD m g 0))
-      ∙ copy-step (suc (suc (suc n))) o 0 (omega arith) refl
-      ∙ copy-step (suc (suc n)) (first o w) 1 (omega arith) (past o w 0 1 (λ e. omega arith))
-      ∙ copy-step (suc n) (second o w) 2 (omega arith) (past (first o w) w 1 2 (λ e. omega arith) ∙ past o w 0 2 (λ e. omega arith))
-      ∙ copy-step n (third o w) 3 (omega arith) (past (second o w) w 2 3 (λ e. omega arith) ∙ past (first o w) w 1 3 (λ e. omega arith) ∙ past o w 0 3 (λ e. omega arith))
-      ∙ ap (λ (v : ℕ). copiedChars n (4 * f + 4) (4 * g + 4) (set m g v)) (fourth-is o w k h)
+-- four characters are the word
+copied-four : (m : List ℕ) (f g : ℕ) → g < length m → (n : ℕ) → m at f < 2 ^ 32 → m at g < 2 ^ 32
+    → copiedChars (suc (suc (suc (suc n)))) (4 * f + 0) (4 * g + 0) m ≡ copiedChars n (4 * f + 4) (4 * g + 4) (set m g (m at f))
+copied-four m f g l n h k =
+    let o = m at g in
+    let w = m at f in
+    let a = byteOf w 0 in
+    let b = byteOf w 1 in
+    let c = byteOf w 2 in
+    let d = byteOf w 3 in
+    let ha = byteOf-lt w 0 in
+    let hb = byteOf-lt w 1 in
+    let hc = byteOf-lt w 2 in
+    let hd = byteOf-lt w 3 in
+    put-four m g l n (4 * f + 0) a b c d k ha hb hc hd
+    (read m g l f o 0 (4 * f + 0) refl (omega arith) (λ q. refl))
+    (read m g l f (one o a) 1 (suc (4 * f + 0)) (omega arith) (omega arith) (λ q. after-one o a b c d ha hb hc hd 1 (omega arith)))
+    (read m g l f (two o a b) 2 (suc (suc (4 * f + 0))) (omega arith) (omega arith) (λ q. after-two o a b c d ha hb hc hd 2 (omega arith)))
+    (read m g l f (three o a b c) 3 (suc (suc (suc (4 * f + 0)))) (omega arith) (omega arith) (λ q. after-three o a b c d ha hb hc hd 3 (omega arith)))
+    ∙ ap (λ (x : ℕ). copiedChars n (suc (suc (suc (suc (4 * f + 0))))) (4 * g + 4) (set m g x)) (wordOf-bytes w h)
+    ∙ same-counts (set m g w) {n = n} {n′ = n} {f = suc (suc (suc (suc (4 * f + 0))))} {f′ = 4 * f + 4} {g = 4 * g + 4} {g′ = 4 * g + 4} refl (omega arith) refl
 
 -- a word stored keeps all elements words
 all-set : (m : List ℕ) (g v : ℕ) → g < length m → AllWords m → v < 2 ^ 32 → AllWords (set m g v)
@@ -118,10 +71,7 @@ all-set m g v l a h i = go (eqb i g) refl
     go true e = rw (eqb-true i g e, getD-set-same m g v 0 l) h
     go false e = rw (getD-set-other m g i v 0 (eqb-false i g e)) (a i)
 
--- equal counts and addresses
-pub same-counts : (m : List ℕ) {n n′ f f′ g g′ : ℕ} → n ≡ n′ → f ≡ f′ → g ≡ g′ → copiedChars n f g m ≡ copiedChars n′ f′ g′ m
-same-counts m p q r = rw (p, q, r)
-
+-- equal addresses
 pub same-words : (n f : ℕ) (m : List ℕ) {g g′ : ℕ} → g ≡ g′ → copiedWords n f g m ≡ copiedWords n f g′ m
 same-words n f m r = rw r
 

@@ -1,7 +1,7 @@
 // The values of a switch's IFFs are below its limit, and distinct [S Shape rules]. A switch may be as long as the table, so its values are not
 // compared pair by pair: marks settle usual lists in one walk, and the order of the values those whose remainders were chosen to be one.
 ghost use mathlib.Core.Path.{_≡_};
-ghost use Prim.Native.Nat.{ℕ, _+_, _*_, _≤_};
+ghost use Prim.Native.Nat.{_+_, _*_, _≤_};
 ghost use lib.ListN.{length};
 ghost use Rattle.rules.specs.Check as Check;
 use crate::rise::by_order;

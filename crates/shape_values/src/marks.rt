@@ -1,7 +1,7 @@
 // IFF values by marks: they are walked once, from the last to the first, and each value's remainder by 1,024 is marked. A value whose remainder
 // is not marked is new, which settles the consecutive values of a usual switch, small or large. One whose remainder is marked is compared with
 // those after it, as long as there are few compares.
-ghost use Prim.Native.Nat.{ℕ, suc, _+_, _*_, _≤_, _<_};
+ghost use Prim.Native.Nat.{suc, _+_, _*_, _≤_, _<_};
 ghost use lib.ListN.{length};
 ghost use Rattle.rules.specs.Check as Check;
 ghost use Rattle.shape_core.specs.Counted.{Marked, freshAt};

@@ -1,6 +1,6 @@
 // IFF values, pair by pair: each is compared with all after it.
 ghost use mathlib.Core.Path.{_≡_};
-ghost use Prim.Native.Nat.{ℕ, _+_, _*_, _≤_, _<_};
+ghost use Prim.Native.Nat.{_+_, _*_, _≤_, _<_};
 ghost use lib.ListN.{length};
 ghost use Rattle.rules.specs.Check as Check;
 ghost use Rattle.shape_core.specs.Counted.{differsAt, freshAt};

@@ -1,5 +1,4 @@
 -- Assumes nothing.
-use native.Mathlib.Omega.{arith}
 use borrow.Author.Needs.{needs}
 use Rattle.block_chars.proofs.Merge.{shifted, merged-lt}
 use Rattle.block_chars.proofs.merged.Statement.{statement}

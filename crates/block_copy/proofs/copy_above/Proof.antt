@@ -6,7 +6,7 @@ use native.Mathlib.Omega.{arith}
 use borrow.Author.Needs.{needs}
 use lib.ListN.{length}
 use Rattle.rules.specs.Exec.{copiedChars}
-use Rattle.block_copy.proofs.Whole.{same-counts}
+use Rattle.block_copy.proofs.Four.{same-counts}
 use Rattle.block_copy.proofs.Repeat.{doubled}
 use Rattle.block_copy.proofs.copy_above.Statement.{statement}
 use Rattle.block_copy.proofs.copy_above.Tie as tie

@@ -1,7 +1,8 @@
 use native.Mathlib.Omega.{arith}
 use Prim.Native.Nat.{_+_, _*_, _/_, _%_}
 use mathlib.Core.Path.{refl, sym, _∙_}
-use Rattle.block_copy.proofs.Whole.{words-at, same-counts}
+use Rattle.block_copy.proofs.Four.{same-counts}
+use Rattle.block_copy.proofs.Whole.{words-at}
 use borrow.Author.Needs.{needs}
 use Rattle.block_copy.proofs.copy_body.Statement.{statement}
 use Rattle.block_copy.proofs.copy_body.Tie as tie

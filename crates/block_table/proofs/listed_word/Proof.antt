@@ -1,6 +1,4 @@
 use native.Mathlib.Omega.{arith}
-use mathlib.Core.Path.{sym, _∙_}
-use borrow.Author.Needs.{needs}
 use Rattle.block_table.proofs.Table.{bounds, lists-sum}
 use Rattle.block_table.proofs.listed_word.Statement.{statement}
 use Rattle.block_table.proofs.listed_word.Tie as tie

@@ -6,11 +6,6 @@ use Rattle.shape_values.proofs.Values.{claimed}
 use borrow.Author.Needs.{needs}
 use Rattle.shape_distinct.proofs.distinct.are_distinct.Statement.{statement}
 use Rattle.shape_distinct.proofs.distinct.are_distinct.Tie as tie
-use Rattle.shape_distinct.proofs.distinct.are_distinct.Reads as reads
-use Rattle.shape_distinct.proofs.distinct.are_distinct.Lts as lts
-use Rattle.shape_distinct.proofs.distinct.past_marks.Reads as past-marks-reads
-use Rattle.shape_values.proofs.marks.by_marks.Reads as by-marks-reads
-use Rattle.shape_values.proofs.pairs.by_pairs.Reads as by-pairs-reads
 
 -- src/distinct.rt:34:9
 by-pairs-requires : tie.Need-by-pairs-requires

@@ -6,10 +6,6 @@ use Rattle.shape_values.proofs.Values.{claimed}
 use borrow.Author.Needs.{needs}
 use Rattle.shape_distinct.proofs.distinct.past_marks.Statement.{statement}
 use Rattle.shape_distinct.proofs.distinct.past_marks.Tie as tie
-use Rattle.shape_distinct.proofs.distinct.past_marks.Reads as reads
-use Rattle.shape_distinct.proofs.distinct.past_marks.Lts as lts
-use Rattle.shape_values.proofs.pairs.by_pairs.Reads as by-pairs-reads
-use Rattle.shape_distinct.proofs.rise.by_order.Reads as by-order-reads
 
 -- src/distinct.rt:20:9
 by-order-requires : tie.Need-by-order-requires

@@ -8,8 +8,6 @@ use Rattle.shape_distinct.proofs.Rising.{all-more}
 use native.Mathlib.Omega.{arith}
 use Rattle.shape_distinct.proofs.rise.all_seen.Statement.{statement}
 use Rattle.shape_distinct.proofs.rise.all_seen.Tie as tie
-use Rattle.shape_distinct.proofs.rise.all_seen.Reads as reads
-use Rattle.shape_distinct.proofs.rise.all_seen.Lts as lts
 
 abbrev Inv-loop : tie.InvT-loop
 Inv-loop seen k i₀ i = (x : ℕ) → x < i → getD seen x 0 ≡ 0 → ⊥

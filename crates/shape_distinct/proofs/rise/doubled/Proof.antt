@@ -5,9 +5,6 @@ use Rattle.shape_distinct.proofs.Rising.{not-distinct}
 use borrow.Author.Needs.{needs}
 use Rattle.shape_distinct.proofs.rise.doubled.Statement.{statement}
 use Rattle.shape_distinct.proofs.rise.doubled.Tie as tie
-use Rattle.shape_distinct.proofs.rise.doubled.Reads as reads
-use Rattle.shape_distinct.proofs.rise.doubled.Lts as lts
-use Rattle.table_layout.proofs.word.Reads as word-reads
 
 -- src/rise.rt:35:9
 returns : tie.Need-returns

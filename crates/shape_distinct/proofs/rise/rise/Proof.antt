@@ -8,12 +8,6 @@ use Rattle.shape_distinct.proofs.Rising.{Apart, apart-start, apart-more
 use native.Mathlib.Omega.{arith}
 use Rattle.shape_distinct.proofs.rise.rise.Statement.{statement}
 use Rattle.shape_distinct.proofs.rise.rise.Tie as tie
-use Rattle.shape_distinct.proofs.rise.rise.Reads as reads
-use Rattle.shape_distinct.proofs.rise.rise.Lts as lts
-use Rattle.shape_distinct.proofs.rise.all_seen.Reads as all-seen-reads
-use Rattle.shape_distinct.proofs.rise.doubled.Reads as doubled-reads
-use Rattle.shape_order.proofs.at.Reads as at-reads
-use Rattle.table_layout.proofs.word.Reads as word-reads
 
 abbrev Inv-loop : tie.InvT-loop
 Inv-loop table limit p k order seen₀ low₀ last₀ j₀ seen low last j = Apart table seen limit p low

@@ -8,10 +8,6 @@ use mathlib.Core.Path.{sym, _∙_}
 use borrow.Author.Needs.{needs}
 use Rattle.shape_switch.proofs.switch.bsw_ok.Statement.{statement}
 use Rattle.shape_switch.proofs.switch.bsw_ok.Tie as tie
-use Rattle.shape_switch.proofs.switch.bsw_ok.Reads as reads
-use Rattle.shape_switch.proofs.switch.bsw_ok.Lts as lts
-use Rattle.shape_switch.proofs.switch.default_ok.Reads as default-ok-reads
-use Rattle.shape_switch.proofs.switch.list_ok.Reads as list-ok-reads
 
 -- src/switch.rt:143:9
 list-ok-requires : tie.Need-list-ok-requires

@@ -4,16 +4,12 @@ use Rattle.shape_core.proofs.Lists.{iffs-start, iffs-next, iffs-other, iffs-end
 use Rattle.rules.specs.Table.{size}
 use Rattle.rules.specs.Check.{iffs}
 use borrow.Author.Needs.{needs}
-use Prim.Native.Nat.{ℕ, _+_, _-_, _≤_}
-use Rattle.base.specs.Test.{_and_, _or_, if}
-use borrow.Author.Tests.{eq-eqb, ne-eqb, lt-ltb, le-ltb, le-leb, lt-leb, not-true, not-false}
+use Prim.Native.Nat.{_+_, _-_, _≤_}
+use Rattle.base.specs.Test.{_or_}
 use native.Mathlib.Omega.{arith}
-use mathlib.Core.Bool.{Bool, true, false, not}
-use mathlib.Core.Path.{_≡_, refl, sym, ap, _∙_}
+use mathlib.Core.Path.{_≡_}
 use Rattle.shape_switch.proofs.switch.count_iffs.Statement.{statement}
 use Rattle.shape_switch.proofs.switch.count_iffs.Tie as tie
-use Rattle.shape_switch.proofs.switch.count_iffs.Reads as reads
-use Rattle.shape_switch.proofs.switch.count_iffs.Lts as lts
 
 abbrev Inv-loop : tie.InvT-loop
 Inv-loop table classes body n p k₀ k = (p + k ≤ n) × (iffs table p n ≡ k + iffs table (p + k) (n - k))

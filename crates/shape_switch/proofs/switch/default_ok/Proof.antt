@@ -5,11 +5,6 @@ use mathlib.Core.Path.{refl, _∙_}
 use borrow.Author.Needs.{needs}
 use Rattle.shape_switch.proofs.switch.default_ok.Statement.{statement}
 use Rattle.shape_switch.proofs.switch.default_ok.Tie as tie
-use Rattle.shape_switch.proofs.switch.default_ok.Reads as reads
-use Rattle.shape_switch.proofs.switch.default_ok.Lts as lts
-use Rattle.shape_core.proofs.reach.may_reach.Reads as may-reach-reads
-use Rattle.table_layout.proofs.index.Reads as index-reads
-use Rattle.table_layout.proofs.word.Reads as word-reads
 
 -- src/switch.rt:137:23
 word-requires : tie.Need-word-requires

@@ -5,12 +5,6 @@ use mathlib.Core.Path.{_∙_}
 use borrow.Author.Needs.{needs}
 use Rattle.shape_switch.proofs.switch.list_ok.Statement.{statement}
 use Rattle.shape_switch.proofs.switch.list_ok.Tie as tie
-use Rattle.shape_switch.proofs.switch.list_ok.Reads as reads
-use Rattle.shape_switch.proofs.switch.list_ok.Lts as lts
-use Rattle.shape_core.proofs.reach.class_at.Reads as class-at-reads
-use Rattle.shape_distinct.proofs.distinct.are_distinct.Reads as are-distinct-reads
-use Rattle.shape_switch.proofs.switch.count_iffs.Reads as count-iffs-reads
-use Rattle.table_layout.proofs.word.Reads as word-reads
 
 -- src/switch.rt:125:49
 add-count-iffs : tie.Need-add-count-iffs

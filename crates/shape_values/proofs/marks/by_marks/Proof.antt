@@ -12,11 +12,6 @@ use Rattle.shape_values.proofs.Values.{marked-start, marked-at, marked-
 use native.Mathlib.Omega.{arith}
 use Rattle.shape_values.proofs.marks.by_marks.Statement.{statement}
 use Rattle.shape_values.proofs.marks.by_marks.Tie as tie
-use Rattle.shape_values.proofs.marks.by_marks.Reads as reads
-use Rattle.shape_values.proofs.marks.by_marks.Lts as lts
-use Rattle.shape_values.proofs.marks.look.Reads as look-reads
-use Rattle.shape_values.proofs.marks.mark.Reads as mark-reads
-use Rattle.std.proofs.num.wrapping_sub_usize.Reads as wrapping-sub-usize-reads
 
 abbrev Inv-loop : tie.InvT-loop
 Inv-loop table limit p k marks₀ spare₀ left₀ marks spare left = (left ≤ k) × (length marks ≡ 1024) × (Check.distinctIffs table limit (p + (k - left)) left ≡ true) × Marked table marks (p + (k - left)) left

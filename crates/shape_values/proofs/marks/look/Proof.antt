@@ -7,11 +7,6 @@ use Rattle.shape_values.proofs.Values.{fresh-unknown, fresh-past, fresh
 use borrow.Author.Needs.{needs}
 use Rattle.shape_values.proofs.marks.look.Statement.{statement}
 use Rattle.shape_values.proofs.marks.look.Tie as tie
-use Rattle.shape_values.proofs.marks.look.Reads as reads
-use Rattle.shape_values.proofs.marks.look.Lts as lts
-use Rattle.shape_values.proofs.pairs.unlike.Reads as unlike-reads
-use Rattle.table_layout.proofs.index.Reads as index-reads
-use Rattle.table_layout.proofs.word.Reads as word-reads
 
 -- src/marks.rt:29:8
 word-requires : tie.Need-word-requires

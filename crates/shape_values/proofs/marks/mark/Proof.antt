@@ -8,10 +8,6 @@ use native.Mathlib.Omega.{arith}
 use borrow.Author.Needs.{needs}
 use Rattle.shape_values.proofs.marks.mark.Statement.{statement}
 use Rattle.shape_values.proofs.marks.mark.Tie as tie
-use Rattle.shape_values.proofs.marks.mark.Reads as reads
-use Rattle.shape_values.proofs.marks.mark.Lts as lts
-use Rattle.table_layout.proofs.index.Reads as index-reads
-use Rattle.table_layout.proofs.word.Reads as word-reads
 
 -- src/marks.rt:54:8
 word-requires : tie.Need-word-requires

@@ -11,9 +11,6 @@ use Rattle.shape_values.proofs.Values.{distinct-start, distinct-front, 
 use native.Mathlib.Omega.{arith}
 use Rattle.shape_values.proofs.pairs.by_pairs.Statement.{statement}
 use Rattle.shape_values.proofs.pairs.by_pairs.Tie as tie
-use Rattle.shape_values.proofs.pairs.by_pairs.Reads as reads
-use Rattle.shape_values.proofs.pairs.by_pairs.Lts as lts
-use Rattle.shape_values.proofs.pairs.is_fresh.Reads as is-fresh-reads
 
 abbrev Inv-loop : tie.InvT-loop
 Inv-loop table limit p k left₀ left = (left ≤ k) × (Check.distinctIffs table limit (p + (k - left)) left ≡ true)

@@ -1,17 +1,10 @@
 -- `shape_values::pairs::differs` meets its contract: each return rewrites with the tests that led there.
 -- Assumes nothing.
 use Rattle.shape_values.proofs.Values.{differs-unknown, differs-known}
-use Rattle.base.specs.Test.{_and_, _or_, if}
-use borrow.Author.Tests.{eq-eqb, ne-eqb, lt-ltb, le-ltb, le-leb, lt-leb, not-true, not-false}
-use native.Mathlib.Omega.{arith}
-use mathlib.Core.Bool.{Bool, true, false, not}
-use mathlib.Core.Path.{_≡_, refl, sym, ap, _∙_}
+use Rattle.base.specs.Test.{_or_}
 use borrow.Author.Needs.{needs}
 use Rattle.shape_values.proofs.pairs.differs.Statement.{statement}
 use Rattle.shape_values.proofs.pairs.differs.Tie as tie
-use Rattle.shape_values.proofs.pairs.differs.Reads as reads
-use Rattle.shape_values.proofs.pairs.differs.Lts as lts
-use Rattle.table_layout.proofs.word.Reads as word-reads
 
 -- src/pairs.rt:50:8
 word-requires : tie.Need-word-requires

@@ -5,10 +5,6 @@ use Rattle.shape_values.proofs.Values.{fresh-unknown, fresh-past, fresh
 use borrow.Author.Needs.{needs}
 use Rattle.shape_values.proofs.pairs.is_fresh.Statement.{statement}
 use Rattle.shape_values.proofs.pairs.is_fresh.Tie as tie
-use Rattle.shape_values.proofs.pairs.is_fresh.Reads as reads
-use Rattle.shape_values.proofs.pairs.is_fresh.Lts as lts
-use Rattle.shape_values.proofs.pairs.unlike.Reads as unlike-reads
-use Rattle.table_layout.proofs.word.Reads as word-reads
 
 -- src/pairs.rt:43:8
 word-requires : tie.Need-word-requires

@@ -4,17 +4,13 @@ use Rattle.shape_core.proofs.Tests.{and-no, and-yes}
 use Rattle.shape_values.proofs.Values.{unlike-start, unlike-next, unlike-done}
 use Rattle.rules.specs.Check as Check
 use borrow.Author.Needs.{needs}
-use Prim.Native.Nat.{ℕ, _+_, _-_, _≤_}
-use Rattle.base.specs.Test.{_and_, _or_, if}
-use borrow.Author.Tests.{eq-eqb, ne-eqb, lt-ltb, le-ltb, le-leb, lt-leb, not-true, not-false}
+use Prim.Native.Nat.{_+_, _-_, _≤_}
+use Rattle.base.specs.Test.{_and_, _or_}
+use borrow.Author.Tests.{not-true, not-false}
 use native.Mathlib.Omega.{arith}
-use mathlib.Core.Bool.{Bool, true, false, not}
-use mathlib.Core.Path.{_≡_, refl, sym, ap, _∙_}
+use mathlib.Core.Path.{_≡_, sym, _∙_}
 use Rattle.shape_values.proofs.pairs.unlike.Statement.{statement}
 use Rattle.shape_values.proofs.pairs.unlike.Tie as tie
-use Rattle.shape_values.proofs.pairs.unlike.Reads as reads
-use Rattle.shape_values.proofs.pairs.unlike.Lts as lts
-use Rattle.shape_values.proofs.pairs.differs.Reads as differs-reads
 
 abbrev Inv-loop : tie.InvT-loop
 Inv-loop table v p k i₀ i = (i ≤ k) × (Check.unlike table v p k ≡ Check.unlike table v (p + i) (k - i))
