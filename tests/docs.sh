@@ -92,7 +92,8 @@ astray() {
         echo "$path"
     done
 }
-for page in README.md docs/PROOFS.md docs/ARCHITECTURE.md; do
+for page in README.md docs/PROOFS.md docs/ARCHITECTURE.md "$top"/docs/landings/*.md; do
+    page=${page#"$top/"}
     same "the paths of $page" "$(astray "$page")" ''
 done
 

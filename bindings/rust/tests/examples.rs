@@ -60,6 +60,27 @@ fn discount() {
     }
 }
 
+/// What currency.min shows of an amount by a rate, which the host writes where they stand: the program's first two working words.
+fn in_currency(amount: i32, rate: i32) -> String {
+    let table = table("currency");
+    let mut machine = Machine::start(&table, 256, &[], 0).unwrap();
+    machine.memory_mut()[2..4].copy_from_slice(&[amount as u32, rate as u32]);
+    assert_eq!(machine.run(BUDGET).unwrap().ending, Ending::Waiting);
+    shown(&machine)
+}
+
+/// IOV takes its branch after a division by 0 and after the one whose quotient is out of range, and no other.
+#[test]
+fn currency() {
+    assert_eq!(first_answer("currency"), "NO PRICE");
+    for amount in [i32::MIN, i32::MIN + 1, -1250, -1, 0, 1, 1250, i32::MAX] {
+        for rate in [i32::MIN, -4, -1, 0, 1, 4, i32::MAX] {
+            let due = amount.checked_div(rate).map_or("NO PRICE".to_string(), |price| price.to_string());
+            assert_eq!(in_currency(amount, rate), due, "{amount} by {rate}");
+        }
+    }
+}
+
 #[test]
 fn replace() {
     assert_eq!(first_answer("replace"), "THE DOG SAW A DOGFISH AND ANOTHER DOG");

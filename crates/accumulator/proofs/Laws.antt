@@ -1,8 +1,9 @@
--- Decimal digits: the test of a digit, ten times a word less a digit, and the quotient and remainder of a word by ten, as they pass in 64 bits.
+-- A result that is accumulated; decimal digits: the test of a digit, ten times a word less a digit, and the quotient and remainder of a word by ten. Numbers pass in 64 bits.
 -- Assumes nothing.
 use Prim.Native.Nat.{ℕ, zero, suc, _*_, _-_, _%_, _^_, _<_, _≤_}
 use mathlib.Core.Path.{_≡_, refl, sym, ap, subst, _∙_}
 use mathlib.Core.Bool.{Bool, true, false}
+use mathlib.Core.List.{List}
 use native.Mathlib.Nat.{mod-lt}
 use native.Mathlib.Omega.{arith}
 use lib.Dec.{ltb}
@@ -15,7 +16,12 @@ use mir.Facts.{toZ-ofZ, toZ-pos}
 use Rattle.base.specs.Test.{_or_}
 use Rattle.ops.specs.Machine.{chD0, chD9}
 use Rattle.words.specs.Words.{signed, low, fits, positive}
+use Rattle.rules.specs.Exec.{accumulated}
 use Rattle.integers.proofs.Whole.{signed-pos, mag-signed, positive-is, signed-low, mag-add, mag-neg}
+
+-- an accumulated number, passed in 64 bits
+pub accumulated-by : {r n : ℤ} {y : List ℕ} (z : List ℕ) → y ≡ accumulated (toZ w64 (ofZ w64 r)) z → SFits w64 r → r ≡ n → y ≡ accumulated n z
+accumulated-by z e s h = e ∙ ap (λ (x : ℤ). accumulated x z) (toZ-ofZ {w = w64} s ∙ h)
 
 -- ten as a word
 signed-ten : signed 10 ≡ pos 10

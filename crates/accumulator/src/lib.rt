@@ -28,15 +28,14 @@ pub fn accumulate(z: &mut [u32; 16], n: i64)
     z[Machine::FLAG] = beyond(n);
 }
 
-// IA takes n, a result of its division by v, and the flag is off; where v is 0 the flag is on and IA stays.
+// IA takes n, a result of its division by v, as it takes a sum; where v is 0 the flag is on and IA stays.
 pub fn divide(z: &mut [u32; 16], v: u32, n: i64)
     ensures { λ _. ⌜ Divides n (now (z .entry)) v (now (z .exit)) ⌝ }
 {
     if v == 0 {
         z[Machine::FLAG] = 1;
     } else {
-        z[Machine::IA] = integers::low(n);
-        z[Machine::FLAG] = 0;
+        accumulate(z, n);
     }
 }
 

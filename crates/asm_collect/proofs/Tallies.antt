@@ -1,12 +1,13 @@
 -- The counts of all cards are the header's numbers, and they stay within the bytes read.
 -- Assumes nothing.
 use Prim.Native.Nat.{ℕ, _+_, _≤_}
-use mathlib.Core.Path.{_≡_, refl, _∙_}
+use mathlib.Core.Path.{_≡_, refl, sym, _∙_}
 use mathlib.Core.Bool.{Bool, true, false}
 use mathlib.Core.List.{List, [], _∷_}
 use native.Mathlib.Omega.{arith}
 use lib.ListN.{length}
 use Rattle.base.specs.Test.{_or_, if}
+use Rattle.base.proofs.Bool.{or-false}
 use Rattle.language.specs.Card.{Card, Reader, cardOf, holdsPlace, inSection, isExternal, one, wordCount}
 use Rattle.language.specs.Image.{count, header, isBelow, isFresh, sectionWords}
 use Rattle.language.specs.Answer.{isClosed, isClosing}
@@ -28,14 +29,9 @@ unfolding _or_
 or-assoc true b c = refl
 or-assoc false b c = refl
 
-or-false : (a : Bool) → a ≡ (a or false)
-unfolding _or_
-or-false true = refl
-or-false false = refl
-
 closed-from : (k : Counts) (cs : List Card) → tallyFrom k cs .closed ≡ (k .closed or isClosed cs)
 unfolding tallyFrom tallied isClosed
-closed-from k [] = or-false (k .closed)
+closed-from k [] = sym (or-false (k .closed))
 closed-from k (c ∷ cs) = closed-from (tallied k c) cs ∙ or-assoc (k .closed) (isClosing c) (isClosed cs)
 
 module _ (cs : List Card) where

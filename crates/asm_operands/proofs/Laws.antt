@@ -1,12 +1,12 @@
 -- Laws of operands: what they look at of a card, and numbers cut off at the largest word, which is over every limit.
 -- Assumes nothing.
 use Prim.Native.Nat.{ℕ, _+_, _*_, _≤_, _<_}
-use mathlib.Core.Path.{_≡_, refl, sym, ap, _∙_}
+use mathlib.Core.Path.{_≡_, refl}
 use mathlib.Core.Bool.{Bool, true, false}
-use mathlib.Core.List.{List, [], _∷_}
+use mathlib.Core.List.{List}
 use native.Mathlib.Omega.{arith}
 use borrow.Author.Tests.{leb-false, lt-leb}
-use lib.Dec.{eqb, leb}
+use lib.Dec.{leb}
 use Rattle.base.specs.Test.{_or_, if}
 use Rattle.ops.specs.Machine.{cfpM}
 use Rattle.ops.specs.Format.{Format}
@@ -15,13 +15,7 @@ use Rattle.language.specs.Form.{Form, Term, constant, difference, falling, form
 use Rattle.language.specs.Symbol.{Symbol}
 use Rattle.language.specs.Operand.{Outcome, awaits, displaced, gives, indexedBy, misfits, operandOf, plainBy, resolved, signedWithin, takes, termBy, thenBoth, unnamed, valueWithin}
 use Rattle.asm_types.specs.Views.{cut, cutForm, cutTerm, mostWord}
-use Rattle.asm_values.specs.Read.{formatOf, largestOf}
 use Rattle.asm_operands.specs.LineCard.{lineCard}
-
-pub or-false : (b : Bool) → (b or false) ≡ b
-unfolding _or_
-or-false true = refl
-or-false false = refl
 
 -- two ways to put values together that agree
 pub both-by : (a b : Outcome) (f g : ℕ → ℕ → Outcome) → ((v w : ℕ) → f v w ≡ g v w) → thenBoth a b f ≡ thenBoth a b g

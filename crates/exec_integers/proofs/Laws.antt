@@ -4,12 +4,8 @@ use Prim.Native.Nat.{ℕ}
 use mathlib.Core.Path.{_≡_, sym, ap, subst, _∙_}
 use mathlib.Core.List.{List}
 use native.Mathlib.Omega.{arith}
-use lib.IntN.{ℤ}
 use lib.ListN.{set}
 use lib.Seq.{set-set, set-getD, getD-set-other}
-use mir.Syntax.{w64}
-use mir.Val.{toZ, ofZ, SFits}
-use mir.Facts.{toZ-ofZ}
 use Rattle.base.specs.Test.{Ok, _or_}
 use Rattle.base.specs.Lists.{_at_}
 use Rattle.base.proofs.Bool.{failed}
@@ -17,7 +13,7 @@ use Rattle.ops.specs.Machine.{cfpB, IA}
 use Rattle.rules.specs.Number.{badAddress, trapNumber}
 use Rattle.rules.specs.Effect.{shown}
 use Rattle.rules.specs.Operand.{Operand, movedOf, fetchOf, given}
-use Rattle.rules.specs.Exec.{loads, accumulated}
+use Rattle.rules.specs.Exec.{loads}
 use Rattle.exec_core.specs.declared.Fetched.{Fetched}
 use Rattle.exec_core.specs.declared.Fetched.the-variants.{Got, Missing}
 use Rattle.exec_core.specs.Entry.{Sound}
@@ -40,10 +36,6 @@ module _ (w : ℕ → ℕ) (z m : List ℕ) (o : Operand) (f : List ℕ → ℕ 
   pub load-got : {v : ℕ} {y z′ : List ℕ} → fetchedOf r ≡ fetchOf z m o → r ≡ Got v → y ≡ movedOf cfpB z o → z′ ≡ f y v → shown (w 0) z′ m ≡ answered w z m (loads z m o f)
   unfolding loads given
   load-got {v} {y} {z′} e h k j = rw (← e, h) (ap (λ (l : List ℕ). shown (w 0) l m) (j ∙ ap (λ (l : List ℕ). f l v) k))
-
--- an accumulated number, passed in 64 bits
-pub accumulated-by : {r n : ℤ} {y : List ℕ} (z : List ℕ) → y ≡ accumulated (toZ w64 (ofZ w64 r)) z → SFits w64 r → r ≡ n → y ≡ accumulated n z
-accumulated-by z e s h = e ∙ ap (λ (x : ℤ). accumulated x z) (toZ-ofZ {w = w64} s ∙ h)
 
 -- MFI clears IA: word 0 stays 0, and IA's old value puts it back
 pub cleared-zero : (z : List ℕ) → z at 0 ≡ 0 → set z IA 0 at 0 ≡ 0

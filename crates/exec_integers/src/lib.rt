@@ -93,7 +93,7 @@ pub fn sbi(t: &[u32], b: usize, m: &[u32], z: &mut [u32; 16]) -> usize
     b + Answer::ON
 }
 
-// [M 4.5] DVI: IA := IA / operand one, cut toward zero, the flag off; by 0 IA stays and the flag is on
+// [M 4.5] [02 Wish 1] DVI: IA := IA / operand one, cut toward zero; the flag says whether it is out of range, as only -2147483648 by -1 is; by 0 IA stays and the flag is on
 pub fn dvi(t: &[u32], b: usize, m: &[u32], z: &mut [u32; 16]) -> usize
     requires { ⌜ Entry steady readable going (now t) b (now z) ⌝ }
     ensures { λ r. ⌜ shown r (now (z .exit)) (now (m .entry)) ≡ does (now (t .entry)) b 0 0 (now (z .entry)) (now (m .entry)) Op.DVI ⌝ }

@@ -15,7 +15,7 @@ impl Machine<'_> {
         signed(self.s.ia)
     }
 
-    /// IA and the flag after a sum or a product.
+    /// IA and the flag after a sum, a product or a quotient.
     #[inline(always)]
     pub fn accumulate(&mut self, r: i64) {
         self.s.ia = r as u32;
@@ -78,13 +78,15 @@ impl Machine<'_> {
         Ok(())
     }
 
+    /// DVI and RMI: by 0 IA stays and the flag is on; the one quotient out of range is -2147483648 by -1.
     #[inline(always)]
     pub fn divide(&mut self, number: u32, a: &Operand) -> Result<(), Trap> {
         let v = signed(self.fetch(a)?);
         let i = self.signed();
-        self.s.flag = v == 0;
-        if v != 0 {
-            self.s.ia = if number == 405 { i / v } else { i % v } as u32;
+        match number {
+            _ if v == 0 => self.s.flag = true,
+            405 => self.accumulate(i / v),
+            _ => (self.s.ia, self.s.flag) = ((i % v) as u32, false),
         }
         Ok(())
     }

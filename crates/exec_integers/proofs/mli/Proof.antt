@@ -1,4 +1,5 @@
-use Rattle.exec_integers.proofs.Laws.{steady-still, load-missing, load-got, accumulated-by}
+use Rattle.accumulator.proofs.Laws.{accumulated-by}
+use Rattle.exec_integers.proofs.Laws.{steady-still, load-missing, load-got}
 use borrow.Author.Needs.{needs}
 use Rattle.exec_integers.proofs.mli.Statement.{statement}
 use Rattle.exec_integers.proofs.mli.Tie as tie

@@ -2,7 +2,7 @@ use Prim.Native.Nat.{ℕ, _+_}
 use mathlib.Core.List.{List}
 use mathlib.Core.Path.{ap}
 use Rattle.rules.specs.Effect.{shown}
-use Rattle.exec_integers.proofs.Laws.{accumulated-by}
+use Rattle.accumulator.proofs.Laws.{accumulated-by}
 use borrow.Author.Needs.{needs}
 use Rattle.exec_integers.proofs.ngi.Statement.{statement}
 use Rattle.exec_integers.proofs.ngi.Tie as tie

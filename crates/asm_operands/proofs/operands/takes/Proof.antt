@@ -3,7 +3,7 @@
 use mathlib.Core.Path.{_∙_, refl, sym}
 use borrow.Author.Needs.{needs}
 use Rattle.language.specs.Operand.{takes}
-use Rattle.asm_operands.proofs.Laws.{or-false}
+use Rattle.base.proofs.Bool.{or-false}
 use borrow.Author.Needs.{needs}
 use Rattle.asm_operands.proofs.operands.takes.Statement.{statement}
 use Rattle.asm_operands.proofs.operands.takes.Tie as tie
