@@ -2,17 +2,16 @@
 -- Assumes nothing.
 use Prim.Native.Nat.{ℕ, zero, suc, _-_, _%_, _^_, _<_}
 use mathlib.Core.Path.{_≡_, refl, sym, ap, _∙_, subst}
-use mathlib.Core.Bool.{true, false}
+use mathlib.Core.Bool.{true, false, false≢true}
 use native.Mathlib.Nat.{le-suc, le-trans, div-zero, mod-zero}
 use native.Mathlib.Omega.{arith}
-use lib.Dec.{leb·suc-suc}
 use lib.Bits.{bitAnd, and-mask}
 use lib.IntN.{ℤ, pos, negsuc, negℤ, _+ℤ_, _-ℤ_, _*ℤ_, +ℤ-idl}
-use lib.Signed.{mag, ltZ, leZ, quotZ, remZ, mag-rem}
+use lib.Signed.{mag, ltZ, quotZ, remZ, mag-rem}
 use mir.Syntax.{w64}
 use mir.Val.{toZ, ofZ, SFits}
 use mir.Facts.{toZ-pos, toZ-ofZ}
-use borrow.Author.Tests.{ltb-true}
+use borrow.Author.Tests.{lt-ltb, le-ltb, ltb-true, ltb-false}
 use Rattle.words.specs.Words.{signed, low, fits}
 use Rattle.integers.proofs.Whole.{signed-pos, by-signed, by-sub, mag-signed, mag-add, mag-neg, mag-mul, mag-quot}
 
@@ -33,19 +32,16 @@ pub low-bits : (n : ℤ) → mag n < 2 ^ 63 → ofZ w64 n % 2 ^ 32 ≡ low n
 low-bits (pos n) h = refl
 low-bits (negsuc n) h = omega arith
 
--- the range of a word, below 0 and from 0 on
-pub fits-below : (n : ℤ) → ltZ n (pos 0) ≡ true → leZ (negsuc (2 ^ 31 - 1)) n ≡ fits n
+-- the range of a word, below its least value and from there on
+pub fits-below : (n : ℤ) → ltZ n (negsuc (2 ^ 31 - 1)) ≡ true → false ≡ fits n
 unfolding fits
-fits-below (pos n) e = absurd (none (ltb-true n 0 e))
-  where
-    none : {n : ℕ} → n < 0 → ⊥
-    none h = omega arith
-fits-below (negsuc n) e = sym (leb·suc-suc n (2 ^ 31 - 1))
+fits-below (pos n) e = absurd (false≢true e)
+fits-below (negsuc n) e = sym (le-ltb n (2 ^ 31) (omega (arith, ltb-true (2 ^ 31 - 1) n e)))
 
-pub fits-from : (n : ℤ) → ltZ n (pos 0) ≡ false → ltZ n (pos (2 ^ 31)) ≡ fits n
+pub fits-from : (n : ℤ) → ltZ n (negsuc (2 ^ 31 - 1)) ≡ false → ltZ n (pos (2 ^ 31)) ≡ fits n
 unfolding fits
 fits-from (pos n) e = refl
-fits-from (negsuc n) e = cc
+fits-from (negsuc n) e = sym (lt-ltb n (2 ^ 31) (omega (arith, ltb-false (2 ^ 31 - 1) n e)))
 
 -- a word's signed value, back from its bits
 pub signed-back : (w : ℕ) {r : ℤ} → w < 2 ^ 32 → r ≡ signed w → toZ w64 (ofZ w64 r) ≡ signed w

@@ -31,8 +31,8 @@ pub fn low(n: i64) -> u32
 pub fn fits(n: i64) -> bool
     ensures { λ r. ⌜ r ≡ W.fits n ⌝ }
 {
-    if n < 0 {
-        -(HALF as i64) <= n
+    if n < -(HALF as i64) {
+        false
     } else {
         n < HALF as i64
     }

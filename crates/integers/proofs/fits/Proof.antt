@@ -1,4 +1,4 @@
--- `integers::fits` meets its contract: the two tests are those of the definition, below 0 and from 0 on.
+-- `integers::fits` meets its contract: the two tests are those of the definition, below the least value of a word and from there on.
 -- Assumes nothing.
 use mir.Facts.{toZ-ofZ}
 use Rattle.integers.proofs.Wide.{fits-below, fits-from}
@@ -6,20 +6,20 @@ use borrow.Author.Needs.{needs}
 use Rattle.integers.proofs.fits.Statement.{statement}
 use Rattle.integers.proofs.fits.Tie as tie
 
+cast-if1 : tie.Need-cast-if1
+cast-if1 c = search needs
+
+sub-if1 : tie.Need-sub-if1
+sub-if1 c = search needs
+
 cast-result : tie.Need-cast-result
 cast-result c = search needs
 
-sub-result : tie.Need-sub-result
-sub-result c = search needs
-
-cast-result-2 : tie.Need-cast-result-2
-cast-result-2 c = search needs
-
 returns : tie.Need-returns
-returns c = rw (toZ-ofZ (c .before .fits .n)) (fits-below _ (rw (toZ-ofZ (c .before .fits .n)) at (c .if1 .taken)))
+returns c = fits-below _ (rw (toZ-ofZ (c .before .fits .n)) at (c .if1 .taken))
 
 returns-2 : tie.Need-returns-2
 returns-2 c = rw (toZ-ofZ (c .before .fits .n)) (fits-from _ (rw (toZ-ofZ (c .before .fits .n)) at (c .if1 .left)))
 
 pub fits-spec : {M : Type 1} → statement M
-fits-spec = tie.close (tie.spec cast-result sub-result cast-result-2 returns returns-2)
+fits-spec = tie.close (tie.spec cast-if1 sub-if1 cast-result returns returns-2)
