@@ -12,17 +12,11 @@ use mir.Syntax.{w64}
 use mir.Val.{toZ, ofZ, SFits}
 use mir.Facts.{toZ-pos, toZ-ofZ}
 use borrow.Author.Tests.{lt-ltb, le-ltb, ltb-true, ltb-false}
-use Rattle.words.specs.Words.{signed, low, fits}
-use Rattle.integers.proofs.Whole.{signed-pos, by-signed, by-sub, mag-signed, mag-add, mag-neg, mag-mul, mag-quot}
+use Rattle.words.specs.Words.{signed, low, fits, plus}
+use Rattle.integers.proofs.Whole.{signed-pos, signed-neg, by-signed, by-sub, mag-signed, mag-add, mag-neg, mag-mul, mag-quot}
 
 pub wide-pos : (w : ℕ) → w < 2 ^ 32 → toZ w64 w ≡ pos w
 wide-pos w h = toZ-pos w64 (omega arith)
-
--- a word less 2^32
-pub signed-less : (w : ℕ) → w < 2 ^ 32 → pos w -ℤ pos (2 ^ 32) ≡ negsuc (2 ^ 32 - 1 - w)
-signed-less w h =
-    by-sub (λ (z : ℤ). z ≡ negsuc (2 ^ 32 - 1 - w)) w (2 ^ 32) (λ e. ap negsuc (omega arith))
-    (λ e. absurd (omega arith))
 
 -- the low 32 of 64 bits
 pub low-mask : (x : ℕ) → toZ w64 (bitAnd x (2 ^ 32 - 1)) ≡ pos (x % 2 ^ 32)
@@ -47,6 +41,22 @@ fits-from (negsuc n) e = sym (lt-ltb n (2 ^ 31) (omega (arith, ltb-false (2 ^ 31
 pub signed-back : (w : ℕ) {r : ℤ} → w < 2 ^ 32 → r ≡ signed w → toZ w64 (ofZ w64 r) ≡ signed w
 signed-back w h e =
     ap (λ (z : ℤ). toZ w64 (ofZ w64 z)) e ∙ toZ-ofZ {w = w64} (record { sfits = omega (arith, mag-signed w h) })
+
+-- a word moved up by 2^31, wrapped, and back
+module _ (w : ℕ) {r : ℕ} (h : w < 2 ^ 32) (e : r ≡ plus w (2 ^ 31)) where
+  moved-back : pos (plus w (2 ^ 31)) -ℤ pos (2 ^ 31) ≡ signed w
+  moved-back =
+      by-sub (λ (z : ℤ). z ≡ signed w) (plus w (2 ^ 31)) (2 ^ 31) (λ k. ap negsuc (omega arith) ∙ sym (signed-neg w (omega arith)))
+      (λ k. ap pos (omega arith) ∙ sym (signed-pos w (omega arith)))
+
+  moved-is : toZ w64 r -ℤ pos (2 ^ 31) ≡ signed w
+  moved-is = ap (λ (z : ℤ). z -ℤ pos (2 ^ 31)) (ap (toZ w64) e ∙ wide-pos (plus w (2 ^ 31)) (omega arith)) ∙ moved-back
+
+  pub moved-fits : SFits w64 (toZ w64 r -ℤ pos (2 ^ 31))
+  moved-fits = subst (λ (z : ℤ). SFits w64 z) (sym moved-is) (record { sfits = omega (arith, mag-signed w h) })
+
+  pub moved-value : toZ w64 (ofZ w64 (toZ w64 r -ℤ pos (2 ^ 31))) ≡ signed w
+  moved-value = signed-back w h moved-is
 
 -- an operation of two words, read as signed, whose results have room in 64 bits
 module _ (op : ℤ → ℤ → ℤ) (room : (a b : ℕ) → a < 2 ^ 32 → b < 2 ^ 32 → SFits w64 (op (signed a) (signed b)))

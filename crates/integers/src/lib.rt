@@ -9,15 +9,11 @@ use words::SPAN;
 // The first word that is negative.
 const HALF: u32 = 1 << Machine::CFP_N - 1;
 
-// The word read as signed.
+// The word read as signed: its wrapped sum with 2^31, less 2^31.
 pub fn signed(w: u32) -> i64
     ensures { λ r. ⌜ r ≡ W.signed w ⌝ }
 {
-    if w < HALF {
-        w as i64
-    } else {
-        w as i64 - SPAN as i64
-    }
+    words::add(w, HALF) as i64 - HALF as i64
 }
 
 // The low 32 bits of a signed number.
