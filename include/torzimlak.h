@@ -94,12 +94,21 @@ uint32_t torzimlak_check_table(const uint32_t *table, size_t table_words);
 uint32_t torzimlak_check_state(const uint32_t *table, size_t table_words, size_t memory_words, const uint32_t *state, size_t state_words);
 
 /*
- * A machine in lent memory with the host's fresh words, its argument in WA. 0: started; the program's words are set, the rest of memory
- * is as it was lent. In this order, 30: the table; 31: fewer words are lent than a state has; 10: memory's length; 43: the count of fresh
- * words. What the lent state held is not looked at.
+ * The plain start: a machine in lent memory with the host's fresh words, its argument in WA. 0: started; the program's words are set, and
+ * all words behind them are 0, so that nothing of what the memory held before is left. In this order, 30: the table; 31: fewer words are
+ * lent than a state has; 10: memory's length; 43: the count of fresh words. A refused start clears nothing. What the lent state held is
+ * not looked at.
  */
 uint32_t torzimlak_start(const uint32_t *table, size_t table_words, uint32_t *memory, size_t memory_words, const uint32_t *fresh,
                          size_t fresh_words, uint32_t argument, uint32_t *state, size_t state_words);
+
+/*
+ * The warm start: the same, but that all words behind the program's stay as they were lent. For a host that loads what the program is to
+ * find there, such as a price list, before it starts it: the first of these words has the index table[1] + table[2], and XR holds its
+ * address. Whatever else the memory held is left, too: not for memory that another shop has used. Answers as of torzimlak_start.
+ */
+uint32_t torzimlak_warm_start(const uint32_t *table, size_t table_words, uint32_t *memory, size_t memory_words, const uint32_t *fresh,
+                              size_t fresh_words, uint32_t argument, uint32_t *state, size_t state_words);
 
 /*
  * At most `budget` steps. Numbers 20 to 29: the ending; the value is the count of steps. In this order, 30: the table; 31: the state, as

@@ -1,5 +1,5 @@
 /*
- * What include/torzimlak.h says beside the answers: NULL with length 0, words that a call leaves and words that it sets to 0, the stack of each
+ * What include/torzimlak.h says beside the answers: NULL with length 0, memory behind a program, words that a call leaves and words that it sets to 0, the stack of each
  * call, measured by painting a stack of its own (link with -z now, so that no binding is measured), and that a stack that is too short faults in
  * its guard page. Its argument names the cards of a program with one fresh word that waits; a second one is made here, whose switch takes the table
  * check the most stack and whose TRC takes it a run. Prints the stack of each call; ends with 1 if anything is not as the header says.
@@ -56,6 +56,10 @@ static void call_check_state(void) {
 
 static void call_start(void) {
     number = torzimlak_start(table, table_words, memory, MEMORY, &word, 1, 0, state, TORZIMLAK_STATE_WORDS + MORE);
+}
+
+static void call_warm_start(void) {
+    number = torzimlak_warm_start(table, table_words, memory, MEMORY, &word, 1, 0, state, TORZIMLAK_STATE_WORDS + MORE);
 }
 
 static void call_run(void) {
@@ -203,7 +207,7 @@ static const struct {
     int leaves_state;
     size_t most;
 } calls[] = {
-    {"assemble", call_assemble, 0, 0, 1078952}, {"check_table", call_check_table, 0, 0, OTHERS}, {"start", call_start, 0, 1, OTHERS},
+    {"assemble", call_assemble, 0, 0, 1078952}, {"check_table", call_check_table, 0, 0, OTHERS}, {"warm_start", call_warm_start, 0, 1, OTHERS}, {"start", call_start, 0, 1, OTHERS},
     {"check_state", call_check_state, 0, 0, OTHERS}, {"run", call_run, WAITING, 1, 20568}, {"write", call_write, 0, 0, OTHERS},
     {"restore", call_restore, 0, 1, OTHERS}, {"resume", call_resume, 0, 1, 19368},
 };
@@ -263,6 +267,37 @@ static void nulls(void) {
     expect("restore, memory NULL", torzimlak_restore(table, table_words, file, file_bytes, BUILD, &word, 1, NULL, 0, state, TORZIMLAK_STATE_WORDS), 44);
 }
 
+/* Whether all words behind the program's own are this word. */
+static uint32_t behind_are(uint32_t due) {
+    size_t i;
+    for (i = table[1] + table[2]; i < MEMORY; i++) {
+        if (memory[i] != due) {
+            return 0;
+        }
+    }
+    return 1;
+}
+
+/* The plain start clears what is behind the program's own words, the warm one leaves it, and a refused one clears nothing. */
+static void tenants(void) {
+    size_t i;
+    for (i = 0; i < MEMORY; i++) {
+        memory[i] = MARK;
+    }
+    expect("start, no fresh word", torzimlak_start(table, table_words, memory, MEMORY, NULL, 0, 0, state, TORZIMLAK_STATE_WORDS), 43);
+    expect("start, a word too few", torzimlak_start(table, table_words, memory, TORZIMLAK_MIN_MEMORY - 1, &word, 1, 0, state, TORZIMLAK_STATE_WORDS), 10);
+    expect("start, no room for a state", torzimlak_start(table, table_words, memory, MEMORY, &word, 1, 0, state, TORZIMLAK_STATE_WORDS - 1), 31);
+    expect("start, no table", torzimlak_start(table, table_words - 1, memory, MEMORY, &word, 1, 0, state, TORZIMLAK_STATE_WORDS), 30);
+    expect("a refused start leaves the first word", memory[0], MARK);
+    expect("a refused start clears nothing", behind_are(MARK), 1);
+    call_warm_start();
+    expect("the warm start", number, 0);
+    expect("the warm start clears nothing", behind_are(MARK), 1);
+    call_start();
+    expect("the plain start", number, 0);
+    expect("the plain start clears what is behind the program's words", behind_are(0), 1);
+}
+
 int main(int count, char **arguments) {
     FILE *in = count == 2 ? fopen(arguments[1], "rb") : NULL;
     if (in == NULL) {
@@ -273,6 +308,7 @@ int main(int count, char **arguments) {
     fclose(in);
     stacks("its argument's cards");
     nulls();
+    tenants();
     write_long_cards();
     stacks("a long switch and a long TRC");
     fflush(stdout);

@@ -96,7 +96,7 @@ try 1 '' "torzimlak: freeze takes CARDS and SNAPSHOT, then fresh words$see" "$to
 try 1 '' "torzimlak: wake takes CARDS and SNAPSHOT, then fresh words$see" "$torzimlak" wake token.min
 
 # assemble and check: every example.
-for deck in basket currency discount greeting replace token; do
+for deck in basket currency discount greeting pricelist replace token; do
     "$torzimlak" assemble $deck.min $deck.table > ../out 2> ../err
     same "assemble $deck.min: status" "$?" 0
     same "assemble $deck.min: errors" "$(cat ../err)" ''
@@ -211,7 +211,7 @@ steps 13, place 12, open calls 0
 XL 24, XR 36, XS 32768, WA 12, WB 33, WC 0, IA 0, overflow 0
 waits in EXP 0, exits 0
 text: HELLO, ANNA!' '' "$torzimlak" run greeting.min
-for line in 'basket 4508' 'currency NO PRICE' 'discount 20000' 'greeting HELLO, ANNA!' 'replace THE DOG SAW A DOGFISH AND ANOTHER DOG'; do
+for line in 'basket 4508' 'currency NO PRICE' 'discount 20000' 'greeting HELLO, ANNA!' 'pricelist NOT LISTED' 'replace THE DOG SAW A DOGFISH AND ANOTHER DOG'; do
     same "run ${line%% *}.min: text" "$("$torzimlak" run "${line%% *}.min" | sed -n 's/^text: //p')" "${line#* }"
 done
 deck 'START BRN START' ../loop.min

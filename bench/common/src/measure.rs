@@ -14,6 +14,8 @@ pub enum Goal {
     OfPlain(f64),
     /// So many times memcpy's time.
     OfCopy(f64),
+    /// So many times memset's time, which such a measure has in memcpy's place.
+    OfClear(f64),
 }
 
 /// One measure, in nanoseconds.
@@ -54,6 +56,7 @@ impl Measure {
             Some(("time", n)) => Goal::Time(number(n)?),
             Some(("plain", n)) => Goal::OfPlain(number(n)?),
             Some(("memcpy", n)) => Goal::OfCopy(number(n)?),
+            Some(("memset", n)) => Goal::OfClear(number(n)?),
             _ => Goal::None,
         };
         let made = Measure::new(bench, name, number(proved)?);
@@ -66,7 +69,7 @@ impl Measure {
             Goal::None => None,
             Goal::Time(t) => Some(t),
             Goal::OfPlain(n) => self.plain.map(|t| n * t),
-            Goal::OfCopy(n) => self.copy.map(|t| n * t),
+            Goal::OfCopy(n) | Goal::OfClear(n) => self.copy.map(|t| n * t),
         }
     }
 }
@@ -80,6 +83,7 @@ impl fmt::Display for Measure {
             Goal::Time(t) => write!(f, "time {t}"),
             Goal::OfPlain(n) => write!(f, "plain {n:.3}"),
             Goal::OfCopy(n) => write!(f, "memcpy {n}"),
+            Goal::OfClear(n) => write!(f, "memset {n}"),
         }
     }
 }
@@ -108,7 +112,7 @@ mod tests {
     fn lines_are_read_as_written() {
         let bare = Measure::new("checks", "check_table, one switch", 17_400.125);
         let full = bare.clone().plain(81_700.5).copy(738.25);
-        for goal in [Goal::None, Goal::Time(20_000.0), Goal::OfPlain(0.625), Goal::OfCopy(2.0)] {
+        for goal in [Goal::None, Goal::Time(20_000.0), Goal::OfPlain(0.625), Goal::OfCopy(2.0), Goal::OfClear(1.3)] {
             for measure in [bare.clone().goal(goal), full.clone().goal(goal)] {
                 assert_eq!(Measure::parse(&measure.to_string()), Some(measure));
             }

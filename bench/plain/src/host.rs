@@ -82,6 +82,10 @@ pub fn start(t: &[u32], m: &mut [u32], fresh: &[u32], argument: u32, lent: &mut 
     begun(t, lent, || machine::start(t, m, fresh, argument))
 }
 
+pub fn warm_start(t: &[u32], m: &mut [u32], fresh: &[u32], argument: u32, lent: &mut [u32]) -> u32 {
+    begun(t, lent, || machine::warm_start(t, m, fresh, argument))
+}
+
 pub fn run(t: &[u32], m: &mut [u32], lent: &mut [u32], budget: u32) -> (u32, u32) {
     let answer = judged(t, lent, |mut s| {
         let (number, steps) = machine::run(t, m, &mut s, budget);

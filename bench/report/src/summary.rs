@@ -7,9 +7,10 @@ use torzimlak_bench::{Goal, Measure};
 pub struct Summary(Vec<Measure>);
 
 /// The benches in the order of the report, with their titles.
-pub const BENCHES: [(&str, &str); 4] = [
+pub const BENCHES: [(&str, &str); 5] = [
     ("steps", "Step loop, a step"),
     ("checks", "Checks of a table of 1,024 entries, a call"),
+    ("starts", "Starts, a call, with memset in memcpy's place"),
     ("snapshots", "Snapshots, a call"),
     ("assemble", "Assembler, a call"),
 ];

@@ -28,6 +28,7 @@ fn goal(g: Goal) -> String {
         Goal::Time(t) => format!("under {} ms", t / 1e6),
         Goal::OfPlain(n) => format!("under {n:.2} × plain"),
         Goal::OfCopy(n) => format!("under {n} × memcpy"),
+        Goal::OfClear(n) => format!("under {n} × memset"),
     }
 }
 

@@ -33,7 +33,8 @@ pub struct Machine<'t> {
 }
 
 impl<'t> Machine<'t> {
-    /// A machine with zeroed memory of `words` words, the host's fresh words and its argument in WA.
+    /// The plain start: a machine with memory of `words` words, the host's fresh words and its argument in WA. All words behind the
+    /// program's are 0.
     ///
     /// ```
     /// # use torzimlak::{Machine, Refusal, Table};
@@ -53,18 +54,64 @@ impl<'t> Machine<'t> {
         Machine::start_in(table, vec![0; words], fresh, argument).map_err(Refusal::from)
     }
 
-    /// The same in lent memory, whose words behind the program's stay as they are.
+    /// The plain start in lent memory: nothing of what it held is left.
+    ///
+    /// ```
+    /// # use torzimlak::{Machine, Table};
+    /// # let cards = b" SEC\n SEC\n SEC\n SEC\n SEC\nSTART BRN START\n SEC\n ERB 1,A\n SEC\n ERB 1,A\n END\n";
+    /// # let table = Table::assemble(cards).unwrap();
+    /// # let used = vec![7; 300];
+    /// let machine = Machine::start_in(&table, used, &[], 0).unwrap();
+    /// assert!(machine.memory().iter().all(|&word| word == 0));
+    /// ```
     ///
     /// # Errors
     /// As of [`Machine::start`]; the memory comes back as it was.
     pub fn start_in(
+        table: &'t Table,
+        memory: Vec<u32>,
+        fresh: &[u32],
+        argument: u32,
+    ) -> Result<Machine<'t>, Returned> {
+        Machine::begin(sys::start, table, memory, fresh, argument)
+    }
+
+    /// The warm start in lent memory: all words behind the program's stay as they were lent, for a program that finds something there,
+    /// such as a price list. The first of them is the one whose address XR holds.
+    ///
+    /// ```
+    /// # use torzimlak::{Machine, Table};
+    /// # let cards = b" SEC\n SEC\n SEC\n SEC\nCOUNT DAC 0\n SEC\nSTART BRN START\n SEC\n ERB 1,A\n SEC\n ERB 1,A\n END\n";
+    /// # let table = Table::assemble(cards).unwrap();
+    /// let mut memory = vec![0; 300];
+    /// let room = table.own_words();
+    /// memory[room..room + 2].copy_from_slice(&[1999, 450]);
+    /// let machine = Machine::warm_start(&table, memory, &[], 0).unwrap();
+    /// assert_eq!(machine.memory()[room..room + 2], [1999, 450]);
+    /// assert_eq!(machine.state().registers()[1] as usize, 4 * room);
+    /// ```
+    ///
+    /// # Errors
+    /// As of [`Machine::start`]; the memory comes back as it was.
+    pub fn warm_start(
+        table: &'t Table,
+        memory: Vec<u32>,
+        fresh: &[u32],
+        argument: u32,
+    ) -> Result<Machine<'t>, Returned> {
+        Machine::begin(sys::warm_start, table, memory, fresh, argument)
+    }
+
+    /// Either start.
+    fn begin(
+        start: fn(&[u32], &mut [u32], &[u32], u32, &mut [u32]) -> u32,
         table: &'t Table,
         mut memory: Vec<u32>,
         fresh: &[u32],
         argument: u32,
     ) -> Result<Machine<'t>, Returned> {
         let mut state = State::blank();
-        match sys::start(table.words(), &mut memory, fresh, argument, state.lent()) {
+        match start(table.words(), &mut memory, fresh, argument, state.lent()) {
             0 => Ok(Machine { table, memory, state }),
             number => Err(Returned { refusal: Refusal::answered(number), memory }),
         }
@@ -122,6 +169,11 @@ impl<'t> Machine<'t> {
     /// The words of memory.
     pub fn memory(&self) -> &[u32] {
         &self.memory
+    }
+
+    /// Ends the machine and gives its memory back, as it is: [`Machine::start_in`] leaves nothing of what is in it.
+    pub fn into_memory(self) -> Vec<u32> {
+        self.memory
     }
 
     /// The words of memory: the host may write any of them.

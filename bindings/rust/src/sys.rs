@@ -54,6 +54,17 @@ mod c {
             state: *mut u32,
             state_words: usize,
         ) -> u32;
+        pub fn torzimlak_warm_start(
+            table: *const u32,
+            words: usize,
+            memory: *mut u32,
+            memory_words: usize,
+            fresh: *const u32,
+            fresh_words: usize,
+            argument: u32,
+            state: *mut u32,
+            state_words: usize,
+        ) -> u32;
         pub fn torzimlak_run(
             table: *const u32,
             words: usize,
@@ -124,12 +135,30 @@ pub fn check_state(table: &[u32], memory_words: usize, state: &[u32]) -> u32 {
     unsafe { c::torzimlak_check_state(table.as_ptr(), table.len(), memory_words, state.as_ptr(), state.len()) }
 }
 
-/// A machine in lent memory with the host's fresh words, its argument in WA: 0, or in this order 30, 31 (fewer words are lent than a state
-/// has), 10, 43.
+/// The plain start: a machine in lent memory with the host's fresh words, its argument in WA; all words behind the program's are 0.
+/// 0, or in this order 30, 31 (fewer words are lent than a state has), 10, 43.
 pub fn start(table: &[u32], memory: &mut [u32], fresh: &[u32], argument: u32, state: &mut [u32]) -> u32 {
     // SAFETY: as this module says: pointers and lengths are those of live slices.
     unsafe {
         c::torzimlak_start(
+            table.as_ptr(),
+            table.len(),
+            memory.as_mut_ptr(),
+            memory.len(),
+            fresh.as_ptr(),
+            fresh.len(),
+            argument,
+            state.as_mut_ptr(),
+            state.len(),
+        )
+    }
+}
+
+/// The warm start: the same, but that all words behind the program's stay as they were lent.
+pub fn warm_start(table: &[u32], memory: &mut [u32], fresh: &[u32], argument: u32, state: &mut [u32]) -> u32 {
+    // SAFETY: as this module says: pointers and lengths are those of live slices.
+    unsafe {
+        c::torzimlak_warm_start(
             table.as_ptr(),
             table.len(),
             memory.as_mut_ptr(),

@@ -49,6 +49,12 @@ impl Table {
         &self.0
     }
 
+    /// How many words of memory are the program's own, from the first on: its constants and working words. Behind them is the room that
+    /// a plain start clears and a warm start leaves as lent.
+    pub fn own_words(&self) -> usize {
+        self.0[1] as usize + self.0[2] as usize
+    }
+
     /// How many fresh words the host supplies at a start and at each restore.
     pub fn fresh_words(&self) -> usize {
         self.0[3] as usize

@@ -205,7 +205,7 @@ fn runs() {
         let mut memory: Vec<u32> = (0..m).map(|_| match fill { 0 => 0, 1 => r.below(1200) as u32, _ => r.next() as u32 }).collect();
         let fresh: Vec<u32> = (0..Table(&t).fresh_count()).map(|_| r.next() as u32).collect();
         let mut words = vec![0; STATE_WORDS];
-        assert_eq!(sys::start(&t, &mut memory, &fresh, r.below(100) as u32, &mut words), 0);
+        assert_eq!(sys::warm_start(&t, &mut memory, &fresh, r.below(100) as u32, &mut words), 0);
         for _ in 0..6 {
             if r.once_in(2) {
                 host_writes(&mut r, &mut words, m);
@@ -238,17 +238,38 @@ fn starts() {
         let t = lawful(&mut r);
         let t = if r.once_in(5) { spoil_table(&mut r, &t) } else { t };
         let m = *r.pick(&[0, 63, 255, 256, 300, 8192, 8193]);
-        let mut memory: Vec<u32> = (0..m).map(|i| i as u32 * 7).collect();
+        let memory: Vec<u32> = (0..m).map(|i| i as u32 * 7 + 1).collect();
         let due_fresh = (Table(&t).fresh_count() % 40) as i64 + [0, 0, 0, 1, -1][r.below(5)];
         let fresh = vec![9; due_fresh.max(0) as usize];
-        let mut words = used_room(&mut r);
-        let (mut own, mut plain) = (memory.clone(), words.clone());
-        let due = host::start(&t, &mut own, &fresh, 5, &mut plain);
-        assert_eq!(sys::start(&t, &mut memory, &fresh, 5, &mut words), due);
-        assert_eq!((memory, words), (own, plain));
-        seen.insert(due);
+        let words = used_room(&mut r);
+        let plain = start_alike([sys::start, host::start], &t, &memory, &fresh, &words);
+        let warm = start_alike([sys::warm_start, host::warm_start], &t, &memory, &fresh, &words);
+        assert_eq!((plain.0, &plain.2), (warm.0, &warm.2));
+        if plain.0 == 0 {
+            let own = Table(&t).constants() + Table(&t).workings();
+            assert_eq!(plain.1[..own], warm.1[..own]);
+            assert!(plain.1[own..].iter().all(|&word| word == 0));
+            assert_eq!(warm.1[own..], memory[own..]);
+        } else {
+            assert_eq!((&plain.1, &plain.2), (&memory, &words));
+            assert_eq!((&warm.1, &warm.2), (&memory, &words));
+        }
+        seen.insert(plain.0);
     }
     expect_all("starts", &seen, [0, 10, 30, 31, 43]);
+}
+
+/// A start of the library's and the plain one.
+type Start = fn(&[u32], &mut [u32], &[u32], u32, &mut [u32]) -> u32;
+
+/// Both starts of the same lent words: the same answer, and the same words left. The number, the memory and the state's words.
+fn start_alike(starts: [Start; 2], t: &[u32], memory: &[u32], fresh: &[u32], words: &[u32]) -> (u32, Vec<u32>, Vec<u32>) {
+    let [proved, plain] = starts.map(|start| {
+        let (mut memory, mut words) = (memory.to_vec(), words.to_vec());
+        (start(t, &mut memory, fresh, 5, &mut words), memory, words)
+    });
+    assert_eq!(proved, plain);
+    proved
 }
 
 /// What a machine's calls on files answered.
@@ -268,7 +289,7 @@ fn states_and_files() {
         let m = 256 + r.below(40);
         let mut memory: Vec<u32> = (0..m).map(|_| r.next() as u32).collect();
         let fresh = vec![7; Table(&t).fresh_count()];
-        let mut s = machine::start(&t, &mut memory, &fresh, 1).unwrap();
+        let mut s = machine::warm_start(&t, &mut memory, &fresh, 1).unwrap();
         machine::run(&t, &mut memory, &mut s, r.below(60) as u32);
         let mut words = host::words(&s).to_vec();
         litter(&mut r, &mut words);

@@ -81,6 +81,37 @@ fn currency() {
     }
 }
 
+/// The room of memory for a program, with a price list in it: the count of articles, then their prices.
+fn with_prices(table: &Table, prices: &[u32]) -> Vec<u32> {
+    let mut memory = vec![0; 256];
+    let room = table.own_words();
+    memory[room] = prices.len() as u32;
+    memory[room + 1..=room + prices.len()].copy_from_slice(prices);
+    memory
+}
+
+/// A warm start finds the price list that the host has loaded, a plain one does not.
+#[test]
+fn pricelist() {
+    assert_eq!(first_answer("pricelist"), "NOT LISTED");
+    let table = table("pricelist");
+    let prices = [1999, 450, 12, 0];
+    let loaded = with_prices(&table, &prices);
+    let mut machine = Machine::warm_start(&table, loaded.clone(), &[], 1).unwrap();
+    for (i, article) in (1..=6).enumerate() {
+        assert_eq!(machine.run(BUDGET).unwrap().ending, Ending::Waiting);
+        let due = prices.get(i).map_or("NOT LISTED".to_string(), |price| price.to_string());
+        assert_eq!(shown(&machine), due, "article {article}");
+        machine.resume(0).unwrap();
+        let mut registers = machine.state().registers();
+        registers[3] = article + 1;
+        machine.set_registers(registers);
+    }
+    let mut machine = Machine::start_in(&table, loaded, &[], 1).unwrap();
+    assert_eq!(machine.run(BUDGET).unwrap().ending, Ending::Waiting);
+    assert_eq!(shown(&machine), "NOT LISTED");
+}
+
 #[test]
 fn replace() {
     assert_eq!(first_answer("replace"), "THE DOG SAW A DOGFISH AND ANOTHER DOG");

@@ -88,10 +88,12 @@ fn machines_live_alike() {
 fn refusals_change_nothing() {
     let table = Table::assemble(CARDS).unwrap();
     let lent: Vec<u32> = (0..300).collect();
-    let back = Machine::start_in(&table, lent.clone(), &[], 0).unwrap_err();
-    assert_eq!(back, Returned { refusal: Refusal::FreshCountOff, memory: lent.clone() });
-    let back = Machine::start_in(&table, lent[..200].to_vec(), &[1], 0).unwrap_err();
-    assert_eq!(back, Returned { refusal: Refusal::UnfitLength, memory: lent[..200].to_vec() });
+    for start in [Machine::start_in, Machine::warm_start] {
+        let back = start(&table, lent.clone(), &[], 0).unwrap_err();
+        assert_eq!(back, Returned { refusal: Refusal::FreshCountOff, memory: lent.clone() });
+        let back = start(&table, lent[..200].to_vec(), &[1], 0).unwrap_err();
+        assert_eq!(back, Returned { refusal: Refusal::UnfitLength, memory: lent[..200].to_vec() });
+    }
     let mut machine = Machine::start(&table, 300, &[1], 0).unwrap();
     let before = machine.clone();
     assert_eq!(machine.run(1_000_001), Err(Refusal::OverBudget));

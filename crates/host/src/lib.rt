@@ -7,6 +7,7 @@ ghost use Prim.Native.Nat.{ℕ};
 ghost use lib.ListN.{length};
 ghost use Rattle.host_claims.specs.Answer.{stateNumber, tableNumber};
 ghost use Rattle.rules.specs.Run.{resumes, runs};
+ghost use Rattle.rules.specs.Start.{plain, warm};
 ghost use Rattle.host_claims.specs.Freezing.{HostRestores, HostWrites};
 ghost use Rattle.host_claims.specs.Running.{HostResumes, HostRuns, HostStarts};
 use host_run::run_words;
@@ -16,6 +17,7 @@ use host_words::start_words;
 use host_words::state_number;
 use host_words::table_number;
 use host_words::write_words;
+use starting::Mode;
 
 pub mod cards;
 
@@ -36,9 +38,9 @@ pub extern "C" fn torzimlak_check_state(table: &[u32], len: usize, state: &[u32]
     state_number(table, len, state)
 }
 
-// 0: the program stands at the start of section 4, its words, the host's fresh words and all other words as lent in memory, its 267 words
-// of state in what is lent, the host's argument in WA. 30: the table does not pass its check. 31: fewer words are lent than a state has.
-// 10: the length of memory. 43: the count of fresh words.
+// 0: the program stands at the start of section 4, its words and the host's fresh words in memory and all other words 0, its 267 words of state in
+// what is lent, the host's argument in WA. 30: the table does not pass its check. 31: fewer words are lent than a state has. 10: the length of
+// memory. 43: the count of fresh words.
 #[no_mangle]
 pub extern "C" fn torzimlak_start(
     table: &[u32],
@@ -47,9 +49,23 @@ pub extern "C" fn torzimlak_start(
     argument: u32,
     state: &mut [u32],
 ) -> u32
-    ensures { λ r. ⌜ HostStarts (now (table .entry)) (now (memory .entry)) (now (fresh .entry)) argument (now (state .entry)) r (now (memory .exit)) (now (state .exit)) ⌝ }
+    ensures { λ r. ⌜ HostStarts plain (now (table .entry)) (now (memory .entry)) (now (fresh .entry)) argument (now (state .entry)) r (now (memory .exit)) (now (state .exit)) ⌝ }
 {
-    start_words(table, memory, fresh, argument, state)
+    start_words(Mode::Plain, table, memory, fresh, argument, state)
+}
+
+// The same but for the words behind the program's own, which stay as lent.
+#[no_mangle]
+pub extern "C" fn torzimlak_warm_start(
+    table: &[u32],
+    memory: &mut [u32],
+    fresh: &[u32],
+    argument: u32,
+    state: &mut [u32],
+) -> u32
+    ensures { λ r. ⌜ HostStarts warm (now (table .entry)) (now (memory .entry)) (now (fresh .entry)) argument (now (state .entry)) r (now (memory .exit)) (now (state .exit)) ⌝ }
+{
+    start_words(Mode::Warm, table, memory, fresh, argument, state)
 }
 
 // Upper half 20 to 29: the ending of a run of at most budget steps; the lower half is how many it took. Upper half 30: the table does not

@@ -63,9 +63,9 @@ passing-checked t s rest ws mem p w e =
     }
 
 pub begun-checked : (t ws mem : List ℕ) → Begun t ws mem → Checked t ws mem
-begun-checked t ws mem (byStart lent fs x room h) =
-    let b = start-begins (startWords t lent fs x room) (sym (h .number)) in
-    passing-checked t (b .state) (drop 267 room) ws mem (begun-sound t lent fs x room (b .state) (b .is))
+begun-checked t ws mem (byStart k lent fs x room h) =
+    let b = start-begins (startWords k t lent fs x room) (sym (h .number)) in
+    passing-checked t (b .state) (drop 267 room) ws mem (begun-sound k t lent fs x room (b .state) (b .is))
     (h .state ∙ ap (λ (a : Start.Started). wordsBegun a room) (b .is)) (h .machine (b .state) (b .is))
 begun-checked t ws mem (byRestore file build fs lent room h) =
     let b = restore-wakes (restoreWords t file build fs lent room) (sym (h .number)) in
@@ -74,7 +74,7 @@ begun-checked t ws mem (byRestore file build fs lent room h) =
     (h .state ∙ ap (λ (a : Snapshot.Restored). wordsAfter a room) (b .is)) (h .machine (b .state) (b .is))
 
 pub begun-words : (t ws mem : List ℕ) → Begun t ws mem → AreWords ws × AreWords mem
-begun-words t ws mem (byStart lent fs x room h) = (h .state-words, h .memory-words)
+begun-words t ws mem (byStart k lent fs x room h) = (h .state-words, h .memory-words)
 begun-words t ws mem (byRestore file build fs lent room h) = (h .state-words, h .memory-words)
 
 pub host-begins : HostBegins

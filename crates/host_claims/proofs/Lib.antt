@@ -4,5 +4,6 @@ pub mod Checked
 pub mod Answered
 pub mod Calls
 pub mod Begins
+pub mod Starts
 pub mod RoundTrip
 pub mod Witness

@@ -16,7 +16,7 @@ use Rattle.rules.specs.Number.{Outcome, Refusal, badState, badTable}
 use Rattle.rules.specs.Check.{tableOk}
 use Rattle.rules.specs.Control.{stateAt}
 use Rattle.rules.specs.Start as Start
-use Rattle.rules.specs.Start.{begun, memoryBegun, ownWords, startOf, unbegun}
+use Rattle.rules.specs.Start.{Mode, begun, initial, memoryBegun, ownWords, startOn, unbegun}
 use Rattle.rules.specs.Snapshot as Snapshot
 use Rattle.rules.specs.Snapshot.{bit, memoryWoken, restoreOf, unwoken, woken}
 use Rattle.rules.specs.State as Rules
@@ -160,15 +160,15 @@ pub record Passing (t : List ℕ) (s : Rules.State) : Type 0 where
   pub state : Ok (stateOk t s)
   pub clean : Clean s
 
-start-sound : (t lent fs : List ℕ) (x : ℕ) → BegunIs (Passing t) (startOf t lent fs x)
-unfolding startOf
-start-sound t lent fs x =
+start-sound : (t m fs : List ℕ) (x : ℕ) → BegunIs (Passing t) (startOn t m fs x)
+unfolding startOn
+start-sound t m fs x =
     by-if (BegunIs (Passing t)) _ _ _ (λ e. tt)
     (λ a. by-if (BegunIs (Passing t)) _ _ _ (λ e. tt)
     (λ b. by-if (BegunIs (Passing t)) _ _ _ (λ e. tt)
     (λ e.
     let ok : Ok (tableOk t) = true-ok _ (not-false _ a) in
-    record { table = ok; state = started-passes t lent fs x ok (true-ok _ (not-false _ b)); clean = started-clean t lent fs x })))
+    record { table = ok; state = started-passes t m fs x ok (true-ok _ (not-false _ b)); clean = started-clean t m fs x })))
 
 unbegins : (e : Refusal) (s : Rules.State) → unbegun e ≡ begun s → ⊥
 unbegins e s h = let z : _≡_ {A = ℕ} 0 1 = ap mark h in omega arith
@@ -178,17 +178,17 @@ unbegins e s h = let z : _≡_ {A = ℕ} 0 1 = ap mark h in omega arith
     mark (unbegun e) = 0
 
 -- a start of a host that begins is the rules' start
-pub begun-sound : (t lent fs : List ℕ) (x : ℕ) (ws : List ℕ) (s : Rules.State) → startWords t lent fs x ws ≡ begun s → Passing t s
+pub begun-sound : (k : Mode) (t lent fs : List ℕ) (x : ℕ) (ws : List ℕ) (s : Rules.State) → startWords k t lent fs x ws ≡ begun s → Passing t s
 unfolding startWords
-begun-sound t lent fs x ws s h =
+begun-sound k t lent fs x ws s h =
     subst (BegunIs (Passing t)) h
-    (by-if (BegunIs (Passing t)) _ _ _ (λ e. tt) (λ a. by-if (BegunIs (Passing t)) _ _ _ (λ e. tt) (λ b. start-sound t lent fs x)))
+    (by-if (BegunIs (Passing t)) _ _ _ (λ e. tt) (λ a. by-if (BegunIs (Passing t)) _ _ _ (λ e. tt) (λ b. start-sound t (initial k lent) fs x)))
 
 -- the words that it leaves are the started machine
-pub begun-machine : (t lent fs : List ℕ) (x : ℕ) (ws after words : List ℕ) → after ≡ memoryBegun (startWords t lent fs x ws) lent
-    → words ≡ wordsBegun (startWords t lent fs x ws) ws → (s : Rules.State) → startWords t lent fs x ws ≡ begun s → stateFrom words after ≡ s
-begun-machine t lent fs x ws after words m w s h =
-    let g = begun-sound t lent fs x ws s h in
+pub begun-machine : (k : Mode) (t lent fs : List ℕ) (x : ℕ) (ws after words : List ℕ) → after ≡ memoryBegun (startWords k t lent fs x ws) lent
+    → words ≡ wordsBegun (startWords k t lent fs x ws) ws → (s : Rules.State) → startWords k t lent fs x ws ≡ begun s → stateFrom words after ≡ s
+begun-machine k t lent fs x ws after words m w s h =
+    let g = begun-sound k t lent fs x ws s h in
     let m′ : after ≡ s .core .mem = m ∙ ap (λ (a : Start.Started). memoryBegun a lent) h in
     let w′ : words ≡ wordsFrom (codeOf s) ++ drop 267 ws = w ∙ ap (λ (a : Start.Started). wordsBegun a ws) h in
     rw (m′, w′) (words-machine s (drop 267 ws) (g .clean) (state-limits t s (g .state) .few))

@@ -13,7 +13,7 @@ use Rattle.rules.specs.Alike.{AreWords}
 use Rattle.rules.specs.Claim.{toRegister, wa}
 use Rattle.rules.specs.Table.{constants, freshCount, section4, startWord, workings}
 use Rattle.rules.specs.Reference.{begins, reference}
-use Rattle.rules.specs.Start.{begun, filled, loaded, refreshed, started, supplied}
+use Rattle.rules.specs.Start.{begun, filled, loaded, plain, refreshed, started, supplied}
 use Rattle.rules.specs.State as Rules
 use Rattle.rules.proofs.Bytes.{areWords-cons, areWords-nil}
 use Rattle.rules.proofs.Vectors.{reference-passes, reference-starts}
@@ -40,8 +40,8 @@ first = begins reference 0
 abbrev room : List ℕ
 room = replicate 267 0
 
--- started in 256 words of 0, with room for its state
-starts : startWords reference (replicate 256 0) [] 0 room ≡ begun first
+-- the plain start, in 256 words of 7, with room for its state
+starts : startWords plain reference (replicate 256 7) [] 0 room ≡ begun first
 unfolding startWords if
 starts = rw reference-passes reference-starts
 
@@ -53,13 +53,13 @@ state-small : Ok (allWords (wordsFrom (codeOf first) ++ drop 267 room))
 unfolding allWords _and_ Ok started loaded refreshed supplied filled constants workings freshCount startWord section4
 state-small = tt
 
-reference-begun : HostStarts reference (replicate 256 0) [] 0 room 0 (first .core .mem) (wordsFrom (codeOf first) ++ drop 267 room)
+reference-begun : HostStarts plain reference (replicate 256 7) [] 0 room 0 (first .core .mem) (wordsFrom (codeOf first) ++ drop 267 room)
 reference-begun =
     record {
       number = rw starts;
       memory = rw starts;
       state = rw starts;
-      machine = begun-machine reference (replicate 256 0) [] 0 room (first .core .mem) (wordsFrom (codeOf first) ++ drop 267 room) (rw starts) (rw starts);
+      machine = begun-machine plain reference (replicate 256 7) [] 0 room (first .core .mem) (wordsFrom (codeOf first) ++ drop 267 room) (rw starts) (rw starts);
       memory-words = all-words _ memory-small;
       state-words = all-words _ state-small;
     }
@@ -70,7 +70,7 @@ reference-held =
     record {
       first-words = wordsFrom (codeOf first) ++ drop 267 room;
       first-memory = first .core .mem;
-      begun = byStart (replicate 256 0) [] 0 room reference-begun;
+      begun = byStart plain (replicate 256 7) [] 0 room reference-begun;
       calls = [];
       promised = tt;
       last = toRegister wa 7 ∷ [];

@@ -14,6 +14,7 @@ use Rattle.ops.specs.Machine.{maxBudget}
 use Rattle.rules.specs.Number.{upper}
 use Rattle.rules.specs.Table.{callee, declared}
 use Rattle.rules.specs.State.{Link}
+use Rattle.rules.specs.Start.{Mode}
 use Rattle.rules.specs.Run.{Answer, Call, answer, left, resumes, runs, stepsIn}
 use Rattle.rules.specs.CallStack.{callStack, traceOf}
 use Rattle.rules.specs.Claim.{CallClaim, Register, Write, ending, resuming, toIA, toMemory, toRegister, wa, wb, wc, xl, xr, xs}
@@ -103,9 +104,9 @@ HostCallClaims t ws mem b (m ∷ ms) =
     HostCallClaim t ws₁ mem₁ b m
     × HostCallClaims t (m .words) (m .memory) (callStack t b (traceOf t (stateFrom ws₁ mem₁) (m .call))) ms
 
--- words and memory that a start or a restore has left, with the answer 0
+-- words and memory that a start, plain or warm, or a restore has left, with the answer 0
 pub data Begun (t ws mem : List ℕ) : Type 0 where
-  byStart : (lent fs : List ℕ) (x : ℕ) (room : List ℕ) → HostStarts t lent fs x room 0 mem ws → Begun t ws mem
+  byStart : (k : Mode) (lent fs : List ℕ) (x : ℕ) (room : List ℕ) → HostStarts k t lent fs x room 0 mem ws → Begun t ws mem
   byRestore : (file : List ℕ) (build : ℕ) (fs lent room : List ℕ) → HostRestores t file build fs lent room 0 mem ws → Begun t ws mem
 
 -- Demand 3 over words: from words that pass `torzimlak_check_state`, any list of calls; the call stack begins as their links

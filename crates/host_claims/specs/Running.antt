@@ -1,6 +1,7 @@
 -- What start, run and resume answer a host, and each word that is lent to them, in terms of the rules.
 -- Taken where 01 is open: words that are no state are 31, and so is room of fewer words than a state has; both are judged after 30.
--- Wrong answers that the equations rule out: steps in the upper half, a refused run that changes the state's words, a start of 31 on a bad table.
+-- Wrong answers that the equations rule out: steps in the upper half, a refused run that changes the state's words, a start of 31 on a bad table,
+-- a warm start that clears what was lent.
 -- Assumes nothing.
 use Prim.Native.Nat.{ℕ, _+_}
 use mathlib.Core.Path.{_≡_}
@@ -15,7 +16,7 @@ use Rattle.rules.specs.State as Rules
 use Rattle.rules.specs.Run as Run
 use Rattle.rules.specs.Run.{Call, answer, ended, left, nowhere, refused, stepsIn}
 use Rattle.rules.specs.Start as Start
-use Rattle.rules.specs.Start.{begun, memoryBegun, startOf, unbegun}
+use Rattle.rules.specs.Start.{Mode, begun, memoryBegun, startOf, unbegun}
 use Rattle.rules.specs.Alike.{AreWords}
 use Rattle.states.specs.Views.{codeOf}
 use Rattle.lent.specs.Lent.{lawful, stateFrom, wordsFrom}
@@ -59,10 +60,10 @@ pub record HostResumes (t ws mem : List ℕ) (c : Call) (r : ℕ) (words : List 
   pub memory-words : AreWords mem
   pub state-words : AreWords words
 
--- 30, then 31 for too little room for a state, then what the rules start; of the lent state only its length counts
-unfoldable pub startWords : List ℕ → List ℕ → List ℕ → ℕ → List ℕ → Start.Started
-startWords t lent fs x ws =
-    if (not (tableOk t)) (unbegun badTable) (if (ltb (length ws) 267) (unbegun badState) (startOf t lent fs x))
+-- 30, then 31 for too little room for a state, then what the rules start in this mode; of the lent state only its length counts
+unfoldable pub startWords : Mode → List ℕ → List ℕ → List ℕ → ℕ → List ℕ → Start.Started
+startWords k t lent fs x ws =
+    if (not (tableOk t)) (unbegun badTable) (if (ltb (length ws) 267) (unbegun badState) (startOf k t lent fs x))
 
 abbrev pub startNumber : Start.Started → ℕ
 startNumber (begun s) = 0
@@ -72,11 +73,12 @@ abbrev pub wordsBegun : Start.Started → List ℕ → List ℕ
 wordsBegun (begun s) ws = wordsFrom (codeOf s) ++ drop 267 ws
 wordsBegun (unbegun e) ws = ws
 
--- start's promise to a host: the number, the lent memory, the lent state's words, that these are the started machine, and that all are words
-pub record HostStarts (t lent fs : List ℕ) (x : ℕ) (ws : List ℕ) (r : ℕ) (after words : List ℕ) : Type 0 where
-  pub number : r ≡ startNumber (startWords t lent fs x ws)
-  pub memory : after ≡ memoryBegun (startWords t lent fs x ws) lent
-  pub state : words ≡ wordsBegun (startWords t lent fs x ws) ws
-  pub machine : (s : Rules.State) → startWords t lent fs x ws ≡ begun s → stateFrom words after ≡ s
+-- start's promise to a host, plain or warm [02 Wish 6]: the number, the lent memory, the lent state's words, that these are the started machine,
+-- and that all are words
+pub record HostStarts (k : Mode) (t lent fs : List ℕ) (x : ℕ) (ws : List ℕ) (r : ℕ) (after words : List ℕ) : Type 0 where
+  pub number : r ≡ startNumber (startWords k t lent fs x ws)
+  pub memory : after ≡ memoryBegun (startWords k t lent fs x ws) lent
+  pub state : words ≡ wordsBegun (startWords k t lent fs x ws) ws
+  pub machine : (s : Rules.State) → startWords k t lent fs x ws ≡ begun s → stateFrom words after ≡ s
   pub memory-words : AreWords after
   pub state-words : AreWords words

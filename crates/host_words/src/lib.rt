@@ -8,6 +8,7 @@ ghost use Rattle.host_claims.specs.Answer.{stateNumber, tableNumber};
 ghost use Rattle.host_claims.specs.Freezing.{HostRestores, HostWrites};
 ghost use Rattle.host_claims.specs.Running.{HostResumes, HostStarts, unreadNumber};
 ghost use Rattle.rules.specs.Run.{resumes};
+ghost use Rattle.starting.specs.Answers.{modeOf};
 use host_numbers::BAD_STATE;
 use host_numbers::BAD_TABLE;
 use host_numbers::PASSED;
@@ -22,6 +23,7 @@ use resuming::answers::number as number_resumed;
 use resuming::resume;
 use snapshot::waking::restore_checked;
 use snapshot::writing::write_checked;
+use starting::Mode;
 use starting::number as number_started;
 use starting::start;
 use state_check::passing::state_ok;
@@ -65,22 +67,23 @@ pub fn unread(table: &[u32]) -> u32
     BAD_TABLE
 }
 
-// 0: the program stands at the start of section 4, its words, the host's fresh words and all other words as lent in memory, its 267 words
-// of state in what is lent, the host's argument in WA. 30: the table does not pass its check. 31: fewer words are lent than a state has.
-// 10: the length of memory. 43: the count of fresh words.
+// 0: the program stands at the start of section 4, its words and the host's fresh words in memory, all other words 0, or as lent by a warm start,
+// its 267 words of state in what is lent, the host's argument in WA. 30: the table does not pass its check. 31: fewer words are lent than a state
+// has. 10: the length of memory. 43: the count of fresh words.
 pub fn start_words(
+    mode: Mode,
     table: &[u32],
     memory: &mut [u32],
     fresh: &[u32],
     argument: u32,
     state: &mut [u32],
 ) -> u32
-    ensures { λ r. ⌜ HostStarts (now (table .entry)) (now (memory .entry)) (now (fresh .entry)) argument (now (state .entry)) r (now (memory .exit)) (now (state .exit)) ⌝ }
+    ensures { λ r. ⌜ HostStarts (modeOf mode) (now (table .entry)) (now (memory .entry)) (now (fresh .entry)) argument (now (state .entry)) r (now (memory .exit)) (now (state .exit)) ⌝ }
 {
     if state.len() < WORDS {
         return unread(table);
     }
-    let r = start(table, memory, fresh, argument);
+    let r = start(mode, table, memory, fresh, argument);
     let a = r.answer;
     let n = number_started(a);
     if n == PASSED {

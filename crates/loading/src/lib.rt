@@ -1,8 +1,9 @@
-// Memory as a program begins with it: the table's words, and the host's fresh ones [S The house machine].
+// Memory as a program begins with it: the table's words, the host's fresh ones [S The house machine], and zeros behind them [02 Wish 6].
 // Memory is filled whole, and its few fresh words are set after.
+ghost use mathlib.Core.List.{_++_};
 ghost use mathlib.Core.Path.{_≡_};
-ghost use Prim.Native.Nat.{_+_, _<_, _≤_};
-ghost use lib.ListN.{length};
+ghost use Prim.Native.Nat.{_+_, _-_, _<_, _≤_};
+ghost use lib.ListN.{length, replicate, take};
 ghost use Rattle.base.specs.Test.{Ok};
 ghost use Rattle.rules.specs.Check.{tableOk};
 ghost use Rattle.rules.specs.Start.{filled, loaded, refreshed};
@@ -98,4 +99,16 @@ pub fn load(memory: &mut [u32], table: &[u32], fresh: &[u32])
 {
     fill(memory, table);
     supply(memory, table, fresh);
+}
+
+// Zeros from word from on; all words in front stay.
+pub fn clear(memory: &mut [u32], from: usize)
+    ensures { λ r. ⌜ now (memory .exit) ≡ take from (now (memory .entry)) ++ replicate (length (now (memory .entry)) - from) 0 ⌝ }
+{
+    let end = memory.len();
+    let mut i = from;
+    while i < end {
+        memory[i] = 0;
+        i += 1;
+    }
 }

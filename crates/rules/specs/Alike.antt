@@ -1,15 +1,16 @@
--- Machines of words, and machines that are the same but for their fresh words: what the theorems about snapshots are said with.
+-- Machines of words, machines that are the same but for their fresh words, and the two starts of a program: what the theorems about snapshots
+-- and starts are said with.
 -- Assumes nothing.
-use Prim.Native.Nat.{ℕ, _^_, _<_, _≤_}
+use Prim.Native.Nat.{ℕ, _+_, _^_, _<_, _≤_}
 use mathlib.Core.Path.{_≡_}
 use mathlib.Core.List.{List}
 use mathlib.Core.Logic.{_≢_}
 use lib.ListN.{length}
 use Rattle.base.specs.Lists.{_at_}
 use Rattle.ops.specs.Machine.{FLAG, IA, WA, WB, WC, XL, XR, XS}
-use Rattle.rules.specs.Table.{freshCount, freshIndex}
+use Rattle.rules.specs.Table.{constants, freshCount, freshIndex, workings}
 use Rattle.rules.specs.State.{State}
-use Rattle.rules.specs.Start.{ownWords}
+use Rattle.rules.specs.Start.{Started, begun, ownWords, unbegun}
 
 -- every element is a word of 32 bits; every element is a byte
 pub record AreWords (ws : List ℕ) : Type 0 where
@@ -41,3 +42,23 @@ pub record SameButFresh (t : List ℕ) (s s′ : State) : Type 0 where
   pub words : s .core .words ≡ s′ .core .words
   pub memory-length : length (s .core .mem) ≡ length (s′ .core .mem)
   pub memory : (p : ℕ) → NotFresh t (freshCount t) p → s .core .mem at p ≡ s′ .core .mem at p
+
+-- the machines p and w that the plain and the warm start of a program make of one lent memory [02 Wish 6]: the same state and the same words below
+-- c + w; all others are 0 in p, and as lent in w
+pub record SameStart (t lent : List ℕ) (p w : State) : Type 0 where
+  pub pc : p .pc ≡ w .pc
+  pub waiting : p .waiting ≡ w .waiting
+  pub links : p .links ≡ w .links
+  pub words : p .core .words ≡ w .core .words
+  pub plain-length : length (p .core .mem) ≡ length lent
+  pub warm-length : length (w .core .mem) ≡ length lent
+  pub program : (i : ℕ) → i < constants t + workings t → p .core .mem at i ≡ w .core .mem at i
+  pub cleared : (i : ℕ) → constants t + workings t ≤ i → p .core .mem at i ≡ 0
+  pub kept : (i : ℕ) → constants t + workings t ≤ i → w .core .mem at i ≡ lent at i
+
+-- both starts refuse, by one number, or both begin
+abbrev pub StartsAgree : List ℕ → List ℕ → Started → Started → Type 0
+StartsAgree t lent (begun p) (begun w) = SameStart t lent p w
+StartsAgree t lent (unbegun e) (unbegun e′) = e ≡ e′
+StartsAgree t lent (begun p) (unbegun e) = ⊥
+StartsAgree t lent (unbegun e) (begun w) = ⊥

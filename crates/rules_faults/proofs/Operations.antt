@@ -18,7 +18,7 @@ use Rattle.rules.specs.Operand.{spotOf, movedOf, wordAt, charAt, given, fetchOf
 use Rattle.rules.specs.Exec.{changes, copies, combines, tells, compares, loads, accumulated, divided, leiOf, mfiOf, cvmBy, cvmOf, cvdOf, charsFit, ranged, copiedChars, copiedWords, translated, compared, cmcOf, trcOf, mvcOf, mvwOf, lchOf, schOf, act}
 use Rattle.rules.specs.Control.{stateAt, exitOf, choose, effectOf, step}
 use Rattle.rules.specs.Run.{Answer, Call, refused, ended, nowhere, runs, resumes, steps, ran, perform, answer}
-use Rattle.rules.specs.Start.{ownWords, filled, supplied, refreshed, loaded, started, startOf}
+use Rattle.rules.specs.Start.{ownWords, filled, supplied, refreshed, loaded, started, startOn}
 use Rattle.rules.proofs.Faults.{entryApart, entryOk, faultBy, quickBelow, quickFault, quickTable, rowsFrom}
 use Rattle.rules.proofs.Edges.{Edge, taken, stops, differing, quick-differing, quickDiffering, quick-answer, quickAnswer, quickVerdict}
 
@@ -127,11 +127,11 @@ conversions =
     ∷ []
 
 pub values-taken : differing values 0 ≡ []
-unfolding quickDiffering quickAnswer quickVerdict quickTable quickBelow quickFault faultBy entryOk entryApart rowsFrom _and_ _or_ if member same rows signed fits positive textWords shiftRight shiftLeft size constants workings freshCount externals section4 section5 section6 freshAt exitCount startWord tableLength field classAt opAt value target1 target2 target3 slot executable bodyAt namesProcedure namesExternal callee declared calls entryPlace isEntry entryOf smaller among registerOk valueOk operandOk thirdOk apart outside reaches isOutside startsSection allExits exitList iffs valueKnown unlike distinctIffs switchList exitNumberOk sectionsOk freshOk countsOk limitsOk layoutOk memoryFits stateOk spotOf movedOf wordAt charAt given fetchOf storeOf charIn withChar fetchCharOf storeCharOf changes copies combines tells compares loads accumulated divided leiOf mfiOf cvmBy cvmOf cvdOf charsFit ranged copiedChars copiedWords translated compared cmcOf trcOf mvcOf mvwOf lchOf schOf act exitOf choose effectOf step steps ran perform filled supplied refreshed loaded started startOf
+unfolding quickDiffering quickAnswer quickVerdict quickTable quickBelow quickFault faultBy entryOk entryApart rowsFrom _and_ _or_ if member same rows signed fits positive textWords shiftRight shiftLeft size constants workings freshCount externals section4 section5 section6 freshAt exitCount startWord tableLength field classAt opAt value target1 target2 target3 slot executable bodyAt namesProcedure namesExternal callee declared calls entryPlace isEntry entryOf smaller among registerOk valueOk operandOk thirdOk apart outside reaches isOutside startsSection allExits exitList iffs valueKnown unlike distinctIffs switchList exitNumberOk sectionsOk freshOk countsOk limitsOk layoutOk memoryFits stateOk spotOf movedOf wordAt charAt given fetchOf storeOf charIn withChar fetchCharOf storeCharOf changes copies combines tells compares loads accumulated divided leiOf mfiOf cvmBy cvmOf cvdOf charsFit ranged copiedChars copiedWords translated compared cmcOf trcOf mvcOf mvwOf lchOf schOf act exitOf choose effectOf step steps ran perform filled supplied refreshed loaded started startOn
 values-taken = quick-differing values 0
 
 pub conversions-taken : differing conversions 0 ≡ []
-unfolding quickDiffering quickAnswer quickVerdict quickTable quickBelow quickFault faultBy entryOk entryApart rowsFrom _and_ _or_ if member same rows signed fits positive textWords shiftRight shiftLeft size constants workings freshCount externals section4 section5 section6 freshAt exitCount startWord tableLength field classAt opAt value target1 target2 target3 slot executable bodyAt namesProcedure namesExternal callee declared calls entryPlace isEntry entryOf smaller among registerOk valueOk operandOk thirdOk apart outside reaches isOutside startsSection allExits exitList iffs valueKnown unlike distinctIffs switchList exitNumberOk sectionsOk freshOk countsOk limitsOk layoutOk memoryFits stateOk spotOf movedOf wordAt charAt given fetchOf storeOf charIn withChar fetchCharOf storeCharOf changes copies combines tells compares loads accumulated divided leiOf mfiOf cvmBy cvmOf cvdOf charsFit ranged copiedChars copiedWords translated compared cmcOf trcOf mvcOf mvwOf lchOf schOf act exitOf choose effectOf step steps ran perform filled supplied refreshed loaded started startOf
+unfolding quickDiffering quickAnswer quickVerdict quickTable quickBelow quickFault faultBy entryOk entryApart rowsFrom _and_ _or_ if member same rows signed fits positive textWords shiftRight shiftLeft size constants workings freshCount externals section4 section5 section6 freshAt exitCount startWord tableLength field classAt opAt value target1 target2 target3 slot executable bodyAt namesProcedure namesExternal callee declared calls entryPlace isEntry entryOf smaller among registerOk valueOk operandOk thirdOk apart outside reaches isOutside startsSection allExits exitList iffs valueKnown unlike distinctIffs switchList exitNumberOk sectionsOk freshOk countsOk limitsOk layoutOk memoryFits stateOk spotOf movedOf wordAt charAt given fetchOf storeOf charIn withChar fetchCharOf storeCharOf changes copies combines tells compares loads accumulated divided leiOf mfiOf cvmBy cvmOf cvdOf charsFit ranged copiedChars copiedWords translated compared cmcOf trcOf mvcOf mvwOf lchOf schOf act exitOf choose effectOf step steps ran perform filled supplied refreshed loaded started startOn
 conversions-taken = quick-differing conversions 0
 
 -- A table whose place 0 holds e, with two entry points: place 2 has the value 7, place 4 has none.
@@ -208,5 +208,5 @@ pub controls-taken :
     ∷ (24 ∷ 0 ∷ 0 ∷ 1073741836 ∷ 1073741836 ∷ [])
     ∷ (21 ∷ 5 ∷ 0 ∷ 2 ∷ 2 ∷ []) ∷ (21 ∷ 6 ∷ 0 ∷ 0 ∷ 0 ∷ []) ∷ (21 ∷ 4 ∷ 0 ∷ 1 ∷ 1 ∷ []) ∷ (21 ∷ 4 ∷ 0 ∷ 3 ∷ 3 ∷ []) ∷ (25 ∷ 0 ∷ 0 ∷ 1 ∷ 1 ∷ [])
     ∷ (20 ∷ 0 ∷ 1 ∷ 9 ∷ 9 ∷ []) ∷ (0 ∷ 4 ∷ 0 ∷ 9 ∷ 77 ∷ []) ∷ (0 ∷ 2 ∷ 0 ∷ 9 ∷ 9 ∷ []) ∷ []
-unfolding quickAnswer quickVerdict quickTable quickBelow quickFault faultBy entryOk entryApart rowsFrom _and_ _or_ if member same rows signed fits positive textWords shiftRight shiftLeft size constants workings freshCount externals section4 section5 section6 freshAt exitCount startWord tableLength field classAt opAt value target1 target2 target3 slot executable bodyAt namesProcedure namesExternal callee declared calls entryPlace isEntry entryOf smaller among registerOk valueOk operandOk thirdOk apart outside reaches isOutside startsSection allExits exitList iffs valueKnown unlike distinctIffs switchList exitNumberOk sectionsOk freshOk countsOk limitsOk layoutOk memoryFits stateOk spotOf movedOf wordAt charAt given fetchOf storeOf charIn withChar fetchCharOf storeCharOf changes copies combines tells compares loads accumulated divided leiOf mfiOf cvmBy cvmOf cvdOf charsFit ranged copiedChars copiedWords translated compared cmcOf trcOf mvcOf mvwOf lchOf schOf act exitOf choose effectOf step steps ran perform filled supplied refreshed loaded started startOf
+unfolding quickAnswer quickVerdict quickTable quickBelow quickFault faultBy entryOk entryApart rowsFrom _and_ _or_ if member same rows signed fits positive textWords shiftRight shiftLeft size constants workings freshCount externals section4 section5 section6 freshAt exitCount startWord tableLength field classAt opAt value target1 target2 target3 slot executable bodyAt namesProcedure namesExternal callee declared calls entryPlace isEntry entryOf smaller among registerOk valueOk operandOk thirdOk apart outside reaches isOutside startsSection allExits exitList iffs valueKnown unlike distinctIffs switchList exitNumberOk sectionsOk freshOk countsOk limitsOk layoutOk memoryFits stateOk spotOf movedOf wordAt charAt given fetchOf storeOf charIn withChar fetchCharOf storeCharOf changes copies combines tells compares loads accumulated divided leiOf mfiOf cvmBy cvmOf cvdOf charsFit ranged copiedChars copiedWords translated compared cmcOf trcOf mvcOf mvwOf lchOf schOf act exitOf choose effectOf step steps ran perform filled supplied refreshed loaded started startOn
 controls-taken = ap controlsBy (fun-ext (λ t. fun-ext (λ s. fun-ext (quick-answer t s))))

@@ -14,7 +14,7 @@ use Rattle.rules.specs.Table.{size, constants, workings, freshCount, externals,
 use Rattle.rules.specs.Check.{smaller, among, registerOk, valueOk, operandOk, thirdOk, fieldsOk, apart, outside, reaches, isOutside, startsSection, allExits, exitList, iffs, valueKnown, unlike, distinctIffs, switchList, exitNumberOk, faultAt, rulesHold, sectionsOk, freshOk, countsOk, limitsOk, layoutOk, tableOk}
 use Rattle.rules.specs.State.{memoryFits, stateOk}
 use Rattle.rules.specs.Control.{stateAt}
-use Rattle.rules.specs.Start.{Started, begun, unbegun, ownWords, supplied, refreshed, startOf}
+use Rattle.rules.specs.Start.{Mode, Started, begun, unbegun, ownWords, plain, supplied, refreshed, startOf, startOn, warm}
 use Rattle.rules.specs.Snapshot.{Restored, Written, bytesFrom, fileOf, fileWords, filled, freshHidden, frozenIn, frozenOk, restoreOf, sameProgram, trailerOk, trailerWord, unwoken, unwritten, woken, wordIn, wordsIn, writeOf}
 use Rattle.rules.proofs.Samples.{sampleMachine, sampleTable}
 
@@ -32,16 +32,18 @@ writeNumber (filled file) = 0
 writeNumber (unwritten e) = refusalNumber e
 
 -- Start: of the empty table, which fails its check, and of one with a fresh word; memory of m words; the fresh words supplied.
-abbrev starts : List ℕ → ℕ → List ℕ → ℕ
-starts t m fs = startNumber (startOf t (replicate m 0) fs 0)
+abbrev starts : Mode → List ℕ → ℕ → List ℕ → ℕ
+starts k t m fs = startNumber (startOf k t (replicate m 7) fs 0)
 
 -- 30 before 10 and 43, 10 before 43: all three faults, 30 with each other, 10 with 43, then each alone
-pub start-order :
-    starts [] 255 (9 ∷ []) ∷ starts [] 256 (9 ∷ []) ∷ starts [] 255 [] ∷ starts sampleTable 255 [] ∷ starts sampleTable 8193 []
-    ∷ starts sampleTable 256 [] ∷ starts sampleTable 255 (9 ∷ []) ∷ starts sampleTable 256 (9 ∷ []) ∷ []
-    ≡ 30 ∷ 30 ∷ 30 ∷ 10 ∷ 10 ∷ 43 ∷ 10 ∷ 0 ∷ []
-unfolding _and_ _or_ if member same rows size constants workings freshCount externals section4 section5 section6 freshAt exitCount startWord tableLength field classAt value target1 target2 target3 executable bodyAt namesProcedure namesExternal callee declared calls smaller among registerOk valueOk operandOk thirdOk fieldsOk apart outside reaches isOutside startsSection allExits exitList iffs valueKnown unlike distinctIffs switchList exitNumberOk faultAt rulesHold sectionsOk freshOk countsOk limitsOk layoutOk tableOk memoryFits stateOk startOf
-start-order = refl
+abbrev orders : Mode → List ℕ
+orders k =
+    starts k [] 255 (9 ∷ []) ∷ starts k [] 256 (9 ∷ []) ∷ starts k [] 255 [] ∷ starts k sampleTable 255 [] ∷ starts k sampleTable 8193 []
+    ∷ starts k sampleTable 256 [] ∷ starts k sampleTable 255 (9 ∷ []) ∷ starts k sampleTable 256 (9 ∷ []) ∷ []
+
+pub start-order : (orders plain ≡ 30 ∷ 30 ∷ 30 ∷ 10 ∷ 10 ∷ 43 ∷ 10 ∷ 0 ∷ []) × (orders warm ≡ 30 ∷ 30 ∷ 30 ∷ 10 ∷ 10 ∷ 43 ∷ 10 ∷ 0 ∷ [])
+unfolding _and_ _or_ if member same rows size constants workings freshCount externals section4 section5 section6 freshAt exitCount startWord tableLength field classAt value target1 target2 target3 executable bodyAt namesProcedure namesExternal callee declared calls smaller among registerOk valueOk operandOk thirdOk fieldsOk apart outside reaches isOutside startsSection allExits exitList iffs valueKnown unlike distinctIffs switchList exitNumberOk faultAt rulesHold sectionsOk freshOk countsOk limitsOk layoutOk tableOk memoryFits stateOk startOn
+start-order = (refl, refl)
 
 -- the bytes of a word below 256
 abbrev small : ℕ → List ℕ

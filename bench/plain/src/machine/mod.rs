@@ -95,8 +95,15 @@ pub fn resume(t: &[u32], m: &mut [u32], s: &mut State, exit: u32) -> u32 {
     }
 }
 
-/// Start: 0 and the state, or a refusal.
+/// The plain start: the state, or a refusal. All words behind the program's are 0.
 pub fn start(t: &[u32], m: &mut [u32], fresh: &[u32], argument: u32) -> Result<State, u32> {
+    let s = warm_start(t, m, fresh, argument)?;
+    m[Table(t).constants() + Table(t).workings()..].fill(0);
+    Ok(s)
+}
+
+/// The warm start: all words behind the program's stay.
+pub fn warm_start(t: &[u32], m: &mut [u32], fresh: &[u32], argument: u32) -> Result<State, u32> {
     if !check_table(t) {
         return Err(30);
     }
