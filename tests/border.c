@@ -1,8 +1,9 @@
 /*
- * What include/torzimlak.h says beside the answers: NULL with length 0, memory behind a program, words that a call leaves and words that it sets to 0, the stack of each
- * call, measured by painting a stack of its own (link with -z now, so that no binding is measured), and that a stack that is too short faults in
- * its guard page. Its argument names the cards of a program with one fresh word that waits; a second one is made here, whose switch takes the table
- * check the most stack and whose TRC takes it a run. Prints the stack of each call; ends with 1 if anything is not as the header says.
+ * What include/torzimlak.h says beside the answers: NULL with length 0, what a start leaves behind the program's words, words that a call leaves and
+ * words that it sets to 0, the stack of each call, measured by painting a stack of its own (link with -z now, so that no binding is measured), and
+ * that a stack that is too short faults in its guard page. Its argument names the cards of a program with one fresh word that waits; a second one is
+ * made here, whose switch takes the table check the most stack and whose TRC takes it a run. Prints the stack of each call; ends with 1 if anything
+ * is not as the header says.
  */
 #define _GNU_SOURCE
 #include "torzimlak.h"

@@ -1,18 +1,18 @@
 -- What holds of both starts over the functions that a host calls, proved from their promises and from the rules' laws about any started machine.
 -- Assumes nothing.
-use Prim.Native.Nat.{ℕ, _<_, _≤_}
+use Prim.Native.Nat.{ℕ, _<_}
 use mathlib.Core.Path.{_≡_, refl, sym, ap, subst, _∙_}
 use mathlib.Core.Bool.{Bool, true, false}
-use mathlib.Core.List.{List, _++_}
+use mathlib.Core.List.{List}
 use lib.Dec.{ltb}
-use lib.ListN.{length, drop}
+use lib.ListN.{length}
 use borrow.Author.Tests.{not-false}
 use Rattle.base.specs.Test.{if, Ok}
 use Rattle.base.specs.Lists.{_at_}
 use Rattle.base.proofs.Bool.{by-if, true-ok}
 use Rattle.rules.specs.Check.{tableOk}
 use Rattle.rules.specs.Start as Start
-use Rattle.rules.specs.Start.{Mode, begun, initial, memoryBegun, plain, started, startOf, startOn, unbegun, warm}
+use Rattle.rules.specs.Start.{Mode, begun, initial, memoryBegun, plain, started, startOn, unbegun, warm}
 use Rattle.rules.specs.State as Rules
 use Rattle.rules.specs.State.{memoryFits}
 use Rattle.rules.specs.Table.{freshCount, freshIndex}
@@ -20,8 +20,6 @@ use Rattle.rules.specs.Alike.{StartsAgree}
 use Rattle.rules.proofs.Canonical.{BegunIs}
 use Rattle.rules.proofs.Memory.{length-loaded}
 use Rattle.rules.proofs.Starts.{length-initial, plain-forgets, started-fresh, starts-agree}
-use Rattle.states.specs.Views.{codeOf}
-use Rattle.lent.specs.Lent.{wordsFrom}
 use Rattle.host_claims.specs.Running.{HostStarts, startNumber, startWords, wordsBegun}
 use Rattle.host_claims.specs.Calls.{HostBegins, byStart}
 use Rattle.host_claims.specs.Starts.{HostForgets, HostStartClaims, HostStartsAlike, StartClaim, StartsAlike}
