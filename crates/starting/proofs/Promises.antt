@@ -10,7 +10,7 @@ use Rattle.base.specs.Lists.{_at_}
 use Rattle.base.proofs.Bool.{by-if, true-ok}
 use Rattle.rules.specs.Check.{tableOk}
 use Rattle.rules.specs.Start as Start
-use Rattle.rules.specs.Start.{Mode, begun, initial, startOf, startOn, unbegun}
+use Rattle.rules.specs.Start.{Mode, begun, initial, startOn, unbegun}
 use Rattle.rules.specs.State.{memoryFits, stateOk}
 use Rattle.rules.specs.Table.{freshCount, freshIndex}
 use Rattle.rules.proofs.Starts.{started-fresh, started-passes}
