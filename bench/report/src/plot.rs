@@ -105,7 +105,7 @@ impl Plot {
         let y = 82.0;
         let mut x = 24.0;
         for (class, words, width) in
-            [("plain", "beside plain Rust", 148.0), ("copy", "beside memcpy of the same bytes (starts: memset)", 340.0)]
+            [("plain", "beside plain Rust", 148.0), ("copy", "beside memcpy (starts: memset)", 250.0)]
         {
             self.rect(x, y - 10.0, 14.0, BAR, class);
             self.put(x + 20.0, y, "soft", "start", words);
