@@ -1,5 +1,5 @@
 #!/bin/sh
-# Tries the gate (.ci/run), tools/gate-times, tools/order, tools/progress, tests/valgrind and the first build of ./torzimlak on copies in a folder of its own, with programs of its own in
+# Tries the gate (.ci/run), tools/gate-times, tools/order, tools/edits, tools/progress, tests/valgrind and the first build of ./torzimlak on copies in a folder of its own, with programs of its own in
 # place of rt, cargo, cc, valgrind and tests/host. Proves nothing and takes some seconds. The last line is 'gate.sh: N passed, 0 failed'.
 CDPATH=
 top=$(cd "$(dirname "$0")/.." && pwd -P) || exit 1
@@ -311,6 +311,21 @@ END
 try 'valgrind: the library is not built' 1 'rt: host NOT PROVED
 valgrind: FAILED: the library is not built' without nothing
 same 'valgrind: the old library is gone' "$(ls target/staticlib)" ''
+
+# tools/edits --texts: a text that stands once, twice, not at all, and one that a replacement before it makes; and each edit of this repository.
+mkdir -p crates/one/src crates/one/must-fail
+printf 'a\nb\nb\n' > crates/one/src/lib.rt
+printf 'file: src/lib.rt\nold: a\nnew: c\nold: c\nnew: d\n' > crates/one/must-fail/lawful.edit
+try 'edits: each text stands once' 0 '' tools/edits --texts
+printf 'file: src/lib.rt\nold: b\nnew: c\n' > crates/one/must-fail/twice.edit
+printf 'file: src/lib.rt\nold: e\nnew: c\n' > crates/one/must-fail/lost.edit
+printf 'file: src/gone.rt\nold: a\nnew: c\n' > crates/one/must-fail/no_file.edit
+printf 'file: src/lib.rt\nold: a\n' > crates/one/must-fail/half.edit
+try 'edits: texts that do not' 1 'one/half
+one/lost
+one/no_file
+one/twice' tools/edits --texts
+try 'edits: those of this repository' 0 '' "$top/tools/edits" --texts
 
 printf 'gate.sh: %d passed, %d failed\n' "$passed" "$failed"
 [ "$failed" -eq 0 ]
