@@ -8,7 +8,6 @@ use native.Mathlib.Omega.{arith}
 use lib.Dec.{eqb, ltb}
 use lib.ListN.{length, take, drop, replicate, length-append, length-replicate}
 use lib.Seq.{take-at}
-use borrow.Author.Tests.{not-false}
 use Rattle.base.specs.Test.{if, Ok}
 use Rattle.base.specs.Lists.{_at_}
 use Rattle.base.proofs.Bool.{by-if, true-ok, unless-no, unless-yes}
@@ -23,7 +22,7 @@ use Rattle.rules.specs.State as Rules
 use Rattle.rules.specs.State.{stateOk}
 use Rattle.rules.specs.Run as Run
 use Rattle.rules.specs.Run.{Call, answer, ended, left, nowhere, refused, resumes, verdict}
-use Rattle.rules.proofs.Canonical.{BegunIs, Clean, WokenIs, answer-clean, canonical-own, own-canonical, restore-clean, started-clean}
+use Rattle.rules.proofs.Canonical.{BegunIs, Clean, WokenIs, answer-clean, begun-is, canonical-own, own-canonical, restore-clean, started-clean}
 use Rattle.rules.proofs.Files.{bit-le, eqb-bit, state-limits}
 use Rattle.rules.proofs.Restores.{restore-wakes}
 use Rattle.rules.proofs.Runs.{ended-passes, resume-keeps}
@@ -161,14 +160,9 @@ pub record Passing (t : List ℕ) (s : Rules.State) : Type 0 where
   pub clean : Clean s
 
 start-sound : (t m fs : List ℕ) (x : ℕ) → BegunIs (Passing t) (startOn t m fs x)
-unfolding startOn
 start-sound t m fs x =
-    by-if (BegunIs (Passing t)) _ _ _ (λ e. tt)
-    (λ a. by-if (BegunIs (Passing t)) _ _ _ (λ e. tt)
-    (λ b. by-if (BegunIs (Passing t)) _ _ _ (λ e. tt)
-    (λ e.
-    let ok : Ok (tableOk t) = true-ok _ (not-false _ a) in
-    record { table = ok; state = started-passes t m fs x ok (true-ok _ (not-false _ b)); clean = started-clean t m fs x })))
+    begun-is (Passing t) t m fs x
+    (λ ok fits. record { table = ok; state = started-passes t m fs x ok fits; clean = started-clean t m fs x })
 
 unbegins : (e : Refusal) (s : Rules.State) → unbegun e ≡ begun s → ⊥
 unbegins e s h = let z : _≡_ {A = ℕ} 0 1 = ap mark h in omega arith

@@ -6,18 +6,16 @@ use mathlib.Core.Bool.{Bool, true, false}
 use mathlib.Core.List.{List}
 use lib.Dec.{ltb}
 use lib.ListN.{length}
-use borrow.Author.Tests.{not-false}
-use Rattle.base.specs.Test.{if, Ok}
+use Rattle.base.specs.Test.{if}
 use Rattle.base.specs.Lists.{_at_}
-use Rattle.base.proofs.Bool.{by-if, true-ok}
+use Rattle.base.proofs.Bool.{by-if}
 use Rattle.rules.specs.Check.{tableOk}
 use Rattle.rules.specs.Start as Start
 use Rattle.rules.specs.Start.{Mode, begun, initial, memoryBegun, plain, started, startOn, unbegun, warm}
 use Rattle.rules.specs.State as Rules
-use Rattle.rules.specs.State.{memoryFits}
 use Rattle.rules.specs.Table.{freshCount, freshIndex}
 use Rattle.rules.specs.Alike.{StartsAgree}
-use Rattle.rules.proofs.Canonical.{BegunIs}
+use Rattle.rules.proofs.Canonical.{BegunIs, begun-is}
 use Rattle.rules.proofs.Memory.{length-loaded}
 use Rattle.rules.proofs.Starts.{length-initial, plain-forgets, started-fresh, starts-agree}
 use Rattle.host_claims.specs.Running.{HostStarts, startNumber, startWords, wordsBegun}
@@ -37,15 +35,8 @@ unfolding started
 length-started t m fs x = length-loaded t fs m
 
 begun-on : (t m fs : List ℕ) (x : ℕ) → BegunIs (On t m fs) (startOn t m fs x)
-unfolding startOn
 begun-on t m fs x =
-    by-if (BegunIs (On t m fs)) _ _ _ (λ e. tt)
-    (λ a. by-if (BegunIs (On t m fs)) _ _ _ (λ e. tt)
-    (λ b. by-if (BegunIs (On t m fs)) _ _ _ (λ e. tt)
-    (λ e.
-    let ok : Ok (tableOk t) = true-ok _ (not-false _ a) in
-    let fits : Ok (memoryFits t (length m)) = true-ok _ (not-false _ b) in
-    record { memory-length = length-started t m fs x; fresh = started-fresh t m fs x ok fits })))
+    begun-is (On t m fs) t m fs x (λ ok fits. record { memory-length = length-started t m fs x; fresh = started-fresh t m fs x ok fits })
 
 words-on : (k : Mode) (t lent fs : List ℕ) (x : ℕ) (ws : List ℕ) → BegunIs (On t (initial k lent) fs) (startWords k t lent fs x ws)
 unfolding startWords
