@@ -83,7 +83,7 @@ for word in help --help -h; do
     try 0 "$(cat ../help)" '' "$torzimlak" $word
 done
 try 0 "$(cat ../help)" '' "$torzimlak"
-same 'help names each command' "$(grep -c '^  torzimlak ' ../help)" 6
+same 'help names each command' "$(grep -c '^  torzimlak ' ../help)" 7
 try 1 '' "torzimlak: there is no such command$see" "$torzimlak" assembly
 try 1 '' "torzimlak: there is no such command$see" "$torzimlak" ''
 try 1 '' "torzimlak: there is no such command$see" "$torzimlak" assemble-with-a-long-name
@@ -94,6 +94,17 @@ try 1 '' "torzimlak: check takes TABLE$see" "$torzimlak" check table table
 try 1 '' "torzimlak: run takes CARDS, then fresh words$see" "$torzimlak" run
 try 1 '' "torzimlak: freeze takes CARDS and SNAPSHOT, then fresh words$see" "$torzimlak" freeze token.min
 try 1 '' "torzimlak: wake takes CARDS and SNAPSHOT, then fresh words$see" "$torzimlak" wake token.min
+try 1 '' "torzimlak: operations takes nothing, or a MNEMONIC$see" "$torzimlak" operations MOV BRN
+
+# operations: the paper's lines, each alone too; unknown where no row has the letters.
+try 0 "$(cat "$top/crates/operations/stdout")" '' "$torzimlak" operations
+while IFS= read -r line; do
+    name=$(printf '%s' "$line" | cut -c 7-9)
+    same "operations $name" "$("$torzimlak" operations "$name")" "$line"
+done < "$top/crates/operations/stdout"
+for name in EQU DTC SEC LDR XYZ mov MOv MO MOVE '' ' MOV' MOVMOVMOVMOVMOVMOV; do
+    try 0 unknown '' "$torzimlak" operations "$name"
+done
 
 # assemble and check: every example.
 for deck in basket currency discount greeting pricelist replace token; do

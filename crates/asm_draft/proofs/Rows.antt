@@ -9,11 +9,13 @@ use mathlib.Core.List.{List, [], _∷_}
 use lib.Dec.{eqb}
 use lib.ListN.{length, length-append}
 use lib.Seq.{getD-drop}
-use Rattle.base.specs.Test.{if}
+use Rattle.base.specs.Test.{Ok, _and_, if}
 use Rattle.base.proofs.Bool.{and-r, ok-lt, true-ok}
-use Rattle.ops.specs.Class.{marks, PRC}
-use Rattle.ops.specs.Format.{Beside, besideCode, noKind, nothing, text, typed}
+use Rattle.ops.specs.Class.{Beside, Class, besideOf, classCode, marks, nothing, text, typed, PRC}
+use Rattle.ops.specs.Format.{noKind}
 use Rattle.ops.specs.Ops.{Row}
+use Rattle.ops.proofs.Classes.{every-class}
+use Rattle.base.proofs.Bool.{ok-eq}
 use Rattle.language.specs.Text.{Parsed, unparsed}
 use Rattle.language.specs.Operation.{Operation, assembles, empty, hasClass, malformed, operates, unknown}
 use Rattle.language.specs.Card.{Card, holdsPlace, one, wordCount}
@@ -27,11 +29,10 @@ use Rattle.asm_sections.proofs.Laws.{code-below}
 use Rattle.asm_operations.specs.Codes.{rowOf}
 use Rattle.asm_draft.specs.Operands.{FieldsOf, typeCount}
 
-pub type-count : (b : Beside) → typeCount b ≡ if (eqb (besideCode b) 1) 1 0
-unfolding if
-type-count nothing = refl
-type-count typed = refl
-type-count text = refl
+-- PRC's card alone has a procedure type
+pub type-count : (k : Class) → typeCount (besideOf k) ≡ if (eqb (classCode k) 17) 1 0
+unfolding if Ok _and_
+type-count k = ok-eq _ _ (every-class (λ (d : Class). eqb (typeCount (besideOf d)) (if (eqb (classCode d) 17) 1 0)) tt k)
 
 -- operand k of an entry, by its place among those of the card
 operand-past : (b : Beside) (os : List Outcome) (k : ℕ) → operandAt (withoutType b os) k ≡ operandAt os (typeCount b + k)
@@ -58,15 +59,15 @@ first-by all c o = go (hasClass (marks PRC) (c .operation))
     go false = refl
 
 pub entry-is : (all : List Symbol) (c : Card) (r : Row) (os : List Outcome) (i number third : ℕ) (one two : Given) → number ≡ r .number
-    → i ≡ typeCount (r .beside) → FieldsOf (firstOperand all c (operandAt os i)) one → FieldsOf (operandAt os (i + 1)) two
+    → i ≡ typeCount (besideOf (r .class)) → FieldsOf (firstOperand all c (operandAt os i)) one → FieldsOf (operandAt os (i + 1)) two
     → third ≡ thirdOf (operandAt os (i + 2))
-    → number ∷ one .kind ∷ one .reg ∷ one .val ∷ two .kind ∷ two .reg ∷ two .val ∷ third ∷ [] ≡ rowEntry all c r (withoutType (r .beside) os)
+    → number ∷ one .kind ∷ one .reg ∷ one .val ∷ two .kind ∷ two .reg ∷ two .val ∷ third ∷ [] ≡ rowEntry all c r (withoutType (besideOf (r .class)) os)
 unfolding rowEntry
 entry-is all c r os i number third one two en ei f g et =
     rw (
-      operand-first (r .beside) os,
-      operand-past (r .beside) os 1,
-      operand-past (r .beside) os 2,
+      operand-first (besideOf (r .class)) os,
+      operand-past (besideOf (r .class)) os 1,
+      operand-past (besideOf (r .class)) os 2,
       ← ei,
       en,
       f .kind-is,
@@ -88,7 +89,7 @@ entry-unread (assembles a) n e h all c = refl
 entry-unread (operates i) n e h all c = absurd (h e)
 
 pub entry-row : (o : Operation) (n : ℕ) → n ≡ codeOf o → n ≡ 16 → (all : List Symbol) (c : Card)
-    → rowEntry all c (rowOf o) (withoutType (rowOf o .beside) (outcomes all c)) ≡ entryBy o all c
+    → rowEntry all c (rowOf o) (withoutType (besideOf (rowOf o .class)) (outcomes all c)) ≡ entryBy o all c
 unfolding codeOf rowOf
 entry-row empty n e h all c = absurd (omega arith)
 entry-row malformed n e h all c = absurd (omega arith)

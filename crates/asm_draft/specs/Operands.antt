@@ -2,7 +2,8 @@
 -- Assumes nothing.
 use Prim.Native.Nat.{ℕ, _≤_}
 use mathlib.Core.Path.{_≡_}
-use Rattle.ops.specs.Format.{Beside, nothing, placeKind, text, typed}
+use Rattle.ops.specs.Class.{Beside, nothing, text, typed}
+use Rattle.ops.specs.Format.{placeKind}
 use Rattle.language.specs.Operand.{Outcome, awaits, gives, kindOf, misfits, registerIn, unnamed, valueIn}
 use Rattle.asm_types.specs.declared.Given.{Given}
 use Rattle.asm_symbols.specs.Symbolic.{mostPlaces}

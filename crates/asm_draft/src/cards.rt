@@ -3,6 +3,7 @@ ghost use mathlib.Core.Path.{_≡_};
 ghost use mathlib.Core.List.{map};
 ghost use Prim.Native.Nat.{_+_, _≤_};
 ghost use lib.ListN.{length};
+ghost use Rattle.ops.specs.Class.{besideOf};
 ghost use Rattle.ops.specs.Ops.{rows, cellsOf};
 ghost use Rattle.language.specs.Text.{maxBytes};
 ghost use Rattle.language.specs.Operand.{outcomes};
@@ -22,7 +23,7 @@ use asm_cards::holds_place;
 use asm_cards::is_external;
 use asm_cards::is_fresh;
 use asm_cards::of_words;
-use asm_operations::codes::cell;
+use asm_operations::codes::number_of;
 use asm_outcomes::outcome_at;
 use asm_outcomes::value_at;
 use asm_sections::codes;
@@ -32,7 +33,6 @@ use asm_sections::is_one_word;
 use asm_types::Assembly;
 use asm_types::Card;
 use ops::constants::Machine;
-use ops::table;
 use ops::table::Operations;
 
 // NGI stands for an operation that is not known: it goes on.
@@ -41,10 +41,10 @@ const NGI: u32 = 408;
 // The entry of a card whose operation has a row.
 fn row_entry(list: &Operations, c: Card, s: &[u8], syms: &[u64], n: usize) -> [u32; 8]
     requires { ⌜ (now list ≡ map cellsOf rows) × Symbolic (now syms) n ⌝ }
-    ensures { λ r. ⌜ r ≡ rowEntry (symbolsIn (now (syms .entry)) n) (cardView c (now (s .entry))) (rowOf (operationView (c .operation))) (withoutType (rowOf (operationView (c .operation)) .beside) (outcomes (symbolsIn (now (syms .entry)) n) (cardView c (now (s .entry))))) ⌝ }
+    ensures { λ r. ⌜ r ≡ rowEntry (symbolsIn (now (syms .entry)) n) (cardView c (now (s .entry))) (rowOf (operationView (c .operation))) (withoutType (besideOf (rowOf (operationView (c .operation)) .class)) (outcomes (symbolsIn (now (syms .entry)) n) (cardView c (now (s .entry))))) ⌝ }
 {
     let o = c.operation;
-    let number = cell(list, o, table::NUMBER, 0);
+    let number = number_of(list, o);
     let i = type_count(list, o);
     let one = first_operand(list, c, s, syms, n, i);
     let two = given_of(outcome_at(list, c, s, syms, n, i + 1));

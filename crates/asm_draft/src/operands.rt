@@ -3,7 +3,7 @@ ghost use mathlib.Core.Path.{_≡_};
 ghost use mathlib.Core.List.{map};
 ghost use Prim.Native.Nat.{_<_};
 ghost use Rattle.base.specs.Test.{if};
-ghost use Rattle.ops.specs.Class.{marks, PRC};
+ghost use Rattle.ops.specs.Class.{besideOf, marks, PRC};
 ghost use Rattle.ops.specs.Ops.{rows, cellsOf};
 ghost use Rattle.language.specs.Text.{unparsed};
 ghost use Rattle.language.specs.Operation.{hasClass};
@@ -14,7 +14,6 @@ ghost use Rattle.asm_types.specs.Views.{cardView, operationView, outcomeView, p
 ghost use Rattle.asm_symbols.specs.Symbolic.{FitsCount, Symbolic};
 ghost use Rattle.asm_operations.specs.Codes.{rowOf};
 ghost use Rattle.asm_draft.specs.Operands.{FieldsOf, PlaceFits, typeCount};
-use asm_operations::codes::cell;
 use asm_operations::codes::class_of;
 use asm_outcomes::outcome_at;
 use asm_symbols::uses::declared_count;
@@ -26,11 +25,8 @@ use asm_types::Parsed;
 use asm_values::values::narrow;
 use ops::class;
 use ops::format::NO_KIND;
-use ops::format::NOTHING;
 use ops::format::PLACE_KIND;
-use ops::format::TYPED;
 use ops::format::VALUE_KIND;
-use ops::table;
 use ops::table::Operations;
 
 // No operand.
@@ -71,9 +67,9 @@ pub fn third_of(o: Outcome) -> u32
 // How many of a card's operands are a procedure type.
 pub fn type_count(list: &Operations, o: Operation) -> usize
     requires { ⌜ now list ≡ map cellsOf rows ⌝ }
-    ensures { λ r. ⌜ (r ≡ typeCount (rowOf (operationView o) .beside)) × (r < 2) ⌝ }
+    ensures { λ r. ⌜ (r ≡ typeCount (besideOf (rowOf (operationView o) .class))) × (r < 2) ⌝ }
 {
-    if cell(list, o, table::BESIDE, NOTHING) == TYPED {
+    if class_of(list, o) == class::PRC {
         return 1;
     }
     0

@@ -15,9 +15,9 @@ use Rattle.ops.specs.Lookup.{noRow, rowAt}
 use Rattle.ops.specs.Ops.{Row, cellsOf, rows}
 use Rattle.ops.proofs.Every.{every, every-at}
 use Rattle.ops.proofs.Rows.{rows-count}
-use Rattle.language.specs.Operation.{Assembly, DAC, DBC, DIC, DTC, EJC, END, EQU, EXP, GLB, INP, INR, Operation, SEC, TTL, assemblyRow, assembles, empty, formatsOf, malformed, operates, rowFormats, unknown}
+use Rattle.language.specs.Operation.{Assembly, DTC, Operation, assemblies, assemblyRow, assembles, empty, formatsOf, malformed, operates, rowFormats, unknown}
 use Rattle.asm_sections.specs.Codes.{assemblyCode, codeOf}
-use Rattle.asm_sections.proofs.Laws.{code-below}
+use Rattle.asm_sections.proofs.Laws.{at-code, code-below}
 use Rattle.asm_operations.specs.Codes.{assemblyFormat, firstFormat, operandFormat, rowFormat, rowOf}
 use Rattle.asm_operations.proofs.Laws.{row-past}
 
@@ -65,21 +65,18 @@ row-agrees i = go (ltb i 89) refl
     go true q = every-at rowAgrees noRow rows all-agree i (rw rows-count (ltb-true i 89 q))
     go false q = subst (λ (r : Row). Ok (agrees (rowFormats r) (rowFormat r))) (sym (row-past i (ltb-false i 89 q))) none-agrees
 
+assemblyAgrees : ℕ → Assembly → Bool
+assemblyAgrees n a = agrees (assemblyRow a .formats) (assemblyFormat n)
+
+all-assemblies : Ok (every assemblyAgrees 0 assemblies)
+unfolding assemblyAgrees assemblyFormat firstFormat if Ok _and_
+all-assemblies = tt
+
 assembly-agrees : (a : Assembly) → Ok (agrees (assemblyRow a .formats) (assemblyFormat (assemblyCode a)))
-unfolding assemblyFormat firstFormat if Ok _and_
-assembly-agrees SEC = tt
-assembly-agrees END = tt
-assembly-agrees TTL = tt
-assembly-agrees EJC = tt
-assembly-agrees EXP = tt
-assembly-agrees INP = tt
-assembly-agrees INR = tt
-assembly-agrees GLB = tt
-assembly-agrees EQU = tt
-assembly-agrees DAC = tt
-assembly-agrees DIC = tt
-assembly-agrees DBC = tt
-assembly-agrees DTC = tt
+unfolding assemblyAgrees
+assembly-agrees a =
+    subst (λ (b : Assembly). Ok (agrees (assemblyRow b .formats) (assemblyFormat (assemblyCode a)))) (at-code a)
+    (every-at assemblyAgrees DTC assemblies all-assemblies (assemblyCode a) (code-below a))
 
 -- the words as the code finds them: an assembly operation's by its code, else those of the row
 abbrev pub formatBy : Operation → ℕ → ℕ
@@ -103,7 +100,7 @@ count-by (assembles a) = counted (assemblyRow a .formats) (assemblyFormat (assem
 count-by (operates j) = counted (rowFormats (rowAt j)) (rowFormat (rowAt j)) (row-agrees j)
 
 -- the formats of the row past the last
-pub none-cell : (i : ℕ) → i < 3 → 1 ≡ getD (cellsOf noRow) (3 + i) 0
+pub none-cell : (i : ℕ) → i < 3 → 0 ≡ getD (cellsOf noRow) (5 + i) 0
 none-cell zero h = refl
 none-cell (suc zero) h = refl
 none-cell (suc (suc zero)) h = refl

@@ -2,15 +2,14 @@
 -- Assumes nothing.
 use Prim.Native.Nat.{ℕ, _≤_}
 use mathlib.Core.Path.{_≡_, refl, sym}
-use mathlib.Core.Bool.{false}
+use mathlib.Core.Bool.{Bool, false, not}
 use lib.Dec.{eqb}
 use lib.ListN.{List·getD-eq-default}
-use Rattle.base.specs.Test.{_or_, if}
-use Rattle.ops.specs.Class.{Class, ENP, ENT, ERR, ESW, IFF, PPM, PRC, RTN, classCode, executes, marks}
-use Rattle.ops.specs.Format.{Beside, besideCode, nothing, text, typed}
+use Rattle.base.specs.Test.{_and_, _or_, if, Ok}
+use Rattle.ops.specs.Class.{besideOf, Class, ENP, ENT, ERR, ESW, IFF, PPM, PRC, RTN, classCode, executes, marks}
 use Rattle.ops.specs.Lookup.{noRow, rowAt}
 use Rattle.ops.specs.Ops.{rows}
-use Rattle.ops.proofs.Classes.{is-code}
+use Rattle.ops.proofs.Classes.{agree, every-class, is-code}
 use Rattle.ops.proofs.Rows.{rows-count}
 use Rattle.language.specs.Operation.{EQU, EXP, GLB, INP, INR, Operation, assembles, empty, hasClass, hasText, isLabelless, isText, malformed, operates, unknown, wantsLabel}
 use Rattle.language.specs.Symbol.{declaredSort, entry, external, global, internal, labelless, placedSort, plain, procedure, returns, routine, bare}
@@ -73,15 +72,18 @@ pub placed-by : (o : Operation) (k : ℕ) → k ≡ classCode (rowOf o .class)
 unfolding placedSort
 placed-by o k f = rw (f, has-class (executes ENT) o refl, has-class (marks PRC) o refl, has-class (executes RTN) o refl)
 
-text-is : (b : Beside) → isText b ≡ eqb (besideCode b) 2
-text-is nothing = refl
-text-is typed = refl
-text-is text = refl
+-- a text follows the operands of ERR and ERB alone
+textCode : Class → Bool
+textCode k = eqb (classCode k) 14 or eqb (classCode k) 11
 
-pub text-by : (o : Operation) → hasText o ≡ eqb (besideCode (rowOf o .beside)) 2
-unfolding hasText rowOf
-text-by empty = refl
-text-by malformed = refl
-text-by unknown = refl
-text-by (assembles a) = refl
-text-by (operates i) = text-is (rowAt i .beside)
+text-is : (k : Class) → isText (besideOf k) ≡ (eqb (classCode k) 14 or eqb (classCode k) 11)
+unfolding textCode if Ok _and_ _or_
+text-is k = agree _ _ (every-class (λ (d : Class). if (isText (besideOf d)) (textCode d) (not (textCode d))) tt k)
+
+pub text-by : (o : Operation) (k : ℕ) → k ≡ classCode (rowOf o .class) → hasText o ≡ (eqb k 14 or eqb k 11)
+unfolding hasText rowOf _or_
+text-by empty k e = rw e
+text-by malformed k e = rw e
+text-by unknown k e = rw e
+text-by (assembles a) k e = rw e
+text-by (operates i) k e = rw e (text-is (rowAt i .class))

@@ -1,3 +1,5 @@
 pub mod Laws
+pub mod Assembled
+pub mod Begins
 pub mod FormatWords
 pub mod Letters

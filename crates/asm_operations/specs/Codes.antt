@@ -1,13 +1,14 @@
 -- An operation as numbers: its row in the operation table, and the words of its formats as the code reads them.
 -- Assumes nothing.
-use Prim.Native.Nat.{ℕ, _+_, _-_}
-use lib.Dec.{eqb, leb}
+use Prim.Native.Nat.{ℕ, _+_, _*_, _-_}
+use lib.Dec.{eqb, leb, ltb}
 use lib.ListN.{getD}
 use Rattle.base.specs.Test.{if}
-use Rattle.ops.specs.Format.{INT, NONE, VAL, besideCode, formatWord, typed}
+use Rattle.ops.specs.Class.{PRC, classCode, marks}
+use Rattle.ops.specs.Format.{ADDR, EQOP, INT, INTEGER, NONE, PTYP, VAL, formatWord, wordOf}
 use Rattle.ops.specs.Lookup.{noRow, rowAt}
 use Rattle.ops.specs.Ops.{Row, cellsOf}
-use Rattle.language.specs.Operation.{ADDR, EQOP, INTEGER, Operation, PTYP, assembles, empty, malformed, operates, unknown}
+use Rattle.language.specs.Operation.{Operation, assembles, empty, malformed, operates, unknown}
 
 -- the row of an operation; one that has none has the row past the last
 unfoldable pub rowOf : Operation → Row
@@ -32,8 +33,12 @@ assemblyFormat n i =
     (if (eqb i 1) (if (eqb n 4) (formatWord INT) (if (eqb n 5) (formatWord INT) (formatWord NONE))) (formatWord NONE))
 
 unfoldable pub operandFormat : Row → ℕ → ℕ
-operandFormat r i = if (leb 3 i) (formatWord NONE) (getD (cellsOf r) (3 + i) 0)
+operandFormat r i = if (leb 3 i) (formatWord NONE) (wordOf (getD (cellsOf r) (5 + i) 0))
 
 unfoldable pub rowFormat : Row → ℕ → ℕ
 rowFormat r i =
-    if (eqb (besideCode (r .beside)) (besideCode typed)) (if (eqb i 0) (formatWord PTYP) (operandFormat r (i - 1))) (operandFormat r i)
+    if (eqb (classCode (r .class)) (classCode (marks PRC))) (if (eqb i 0) (formatWord PTYP) (operandFormat r (i - 1))) (operandFormat r i)
+
+-- where the look-up of a row with the first letter a begins: three rows a letter of the alphabet
+unfoldable pub begin : ℕ → ℕ
+begin a = if (ltb a 65) 0 (if (ltb 90 a) 0 ((a - 65) * 3))

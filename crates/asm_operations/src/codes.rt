@@ -1,4 +1,4 @@
-// The cells of an operation's row in the operation table, and the number of its class.
+// The cells of an operation's row in the operation table, its number, and that of its class.
 ghost use mathlib.Core.Path.{_≡_};
 ghost use mathlib.Core.List.{map};
 ghost use Prim.Native.Nat.{_<_};
@@ -9,9 +9,13 @@ ghost use Rattle.ops.specs.Ops.{rows, cellsOf};
 ghost use Rattle.asm_types.specs.Views.{operationView};
 ghost use Rattle.asm_operations.specs.Codes.{rowOf};
 use asm_types::Operation;
-use ops::class::NO_CLASS;
+use ops::cells::NO_CLASS;
+use ops::lookup;
 use ops::table;
 use ops::table::Operations;
+
+// A number is this times the section, and the item.
+const SECTION: u32 = lookup::SECTION as u32;
 
 // The index of an operation's row, past the last where it has none.
 fn row_index(o: Operation) -> usize
@@ -27,8 +31,8 @@ fn row_index(o: Operation) -> usize
 }
 
 // Cell j of an operation's row; `past` is what an operation without a row has there.
-pub fn cell(list: &Operations, o: Operation, j: usize, past: u32) -> u32
-    requires { ⌜ (now list ≡ map cellsOf rows) × (j < 7) × (past ≡ getD (cellsOf noRow) j 0) ⌝ }
+pub fn cell(list: &Operations, o: Operation, j: usize, past: u8) -> u8
+    requires { ⌜ (now list ≡ map cellsOf rows) × (j < 9) × (past ≡ getD (cellsOf noRow) j 0) ⌝ }
     ensures { λ r. ⌜ r ≡ getD (cellsOf (rowOf (operationView o))) j 0 ⌝ }
 {
     let i = row_index(o);
@@ -38,10 +42,25 @@ pub fn cell(list: &Operations, o: Operation, j: usize, past: u32) -> u32
     past
 }
 
+// A byte as a word.
+fn wide(x: u8) -> u32
+    ensures { λ r. ⌜ (r ≡ x) × (r < 256) ⌝ }
+{
+    x as u32
+}
+
+// An operation's number, 0 where it has no row.
+pub fn number_of(list: &Operations, o: Operation) -> u32
+    requires { ⌜ now list ≡ map cellsOf rows ⌝ }
+    ensures { λ r. ⌜ r ≡ rowOf (operationView o) .number ⌝ }
+{
+    wide(cell(list, o, table::SECTION, 0)) * SECTION + wide(cell(list, o, table::ITEM, 0))
+}
+
 // The number of an operation's class, or NO_CLASS.
 pub fn class_of(list: &Operations, o: Operation) -> u32
     requires { ⌜ now list ≡ map cellsOf rows ⌝ }
     ensures { λ r. ⌜ r ≡ classCode (rowOf (operationView o) .class) ⌝ }
 {
-    cell(list, o, table::CLASS, NO_CLASS)
+    wide(cell(list, o, table::CLASS, NO_CLASS))
 }

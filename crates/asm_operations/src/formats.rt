@@ -8,17 +8,21 @@ ghost use Rattle.ops.specs.Ops.{rows, cellsOf};
 ghost use Rattle.language.specs.Operation.{formatsOf, hasText};
 ghost use Rattle.asm_types.specs.Views.{operationView};
 ghost use Rattle.asm_operations.specs.Codes.{assemblyFormat, firstFormat, operandFormat, rowFormat, rowOf};
-use crate::card_format::*;
 use crate::codes::cell;
+use crate::codes::class_of;
 use asm_sections::codes;
 use asm_sections::codes::code_of;
 use asm_types::Assembly;
 use asm_types::Operation;
+use ops::cells;
+use ops::cells::word_of;
+use ops::class;
+use ops::format::ADDR;
+use ops::format::EQOP;
 use ops::format::INT;
+use ops::format::INTEGER;
 use ops::format::NONE;
-use ops::format::NOTHING;
-use ops::format::TEXT;
-use ops::format::TYPED;
+use ops::format::PTYP;
 use ops::format::VAL;
 use ops::table;
 use ops::table::Operations;
@@ -28,7 +32,11 @@ pub fn has_text(list: &Operations, o: Operation) -> bool
     requires { ⌜ now list ≡ map cellsOf rows ⌝ }
     ensures { λ r. ⌜ r ≡ hasText (operationView o) ⌝ }
 {
-    cell(list, o, table::BESIDE, NOTHING) == TEXT
+    let k = class_of(list, o);
+    if k == class::ERR {
+        return true;
+    }
+    k == class::ERB
 }
 
 // The first format of the assembly operation of code n.
@@ -73,7 +81,7 @@ fn operand_format(list: &Operations, o: Operation, i: usize) -> u32
     if 3 <= i {
         return NONE;
     }
-    cell(list, o, table::ONE + i, NONE)
+    word_of(cell(list, o, table::ONE + i, cells::NONE))
 }
 
 // Format i of a row: a procedure type stands before the operands.
@@ -81,7 +89,7 @@ fn row_format(list: &Operations, o: Operation, i: usize) -> u32
     requires { ⌜ now list ≡ map cellsOf rows ⌝ }
     ensures { λ r. ⌜ r ≡ rowFormat (rowOf (operationView o)) i ⌝ }
 {
-    if cell(list, o, table::BESIDE, NOTHING) != TYPED {
+    if class_of(list, o) != class::PRC {
         return operand_format(list, o, i);
     }
     if i == 0 {

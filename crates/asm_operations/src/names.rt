@@ -2,42 +2,56 @@
 ghost use mathlib.Core.Path.{_≡_};
 ghost use mathlib.Core.List.{map};
 ghost use Prim.Native.Nat.{_≤_};
-ghost use lib.ListN.{length};
+ghost use lib.ListN.{drop, length};
 ghost use Rattle.base.specs.Test.{_and_};
-ghost use Rattle.ops.specs.Ops.{rows, cellsOf};
+ghost use Rattle.ops.specs.Lookup.{AnswersIn};
+ghost use Rattle.ops.specs.Ops.{rows, cellsOf, packed};
 ghost use Rattle.language.specs.Text.{isLetter};
 ghost use Rattle.language.specs.Operation.{assemblies, assemblyIn, operationIn, operationNamed, operationOf};
 ghost use Rattle.asm_types.specs.Views.{operationView};
+ghost use Rattle.asm_operations.specs.Codes.{begin};
 use asm_text::fields_of;
 use asm_text::is_empty;
 use asm_text::is_letter;
-use asm_types::Assembly;
 use asm_types::Operation;
+use op_table::assembly::assemblies;
 use ops::lookup::Lookup;
 use ops::lookup::find_letters_in;
-use ops::lookup::pack;
+use ops::table::CELLS;
 use ops::table::Operations;
 
-// The assembly operation of three letters as one number.
-fn assembly_named(key: u32) -> Operation
-    ensures { λ r. ⌜ operationView r ≡ assemblyIn key assemblies ⌝ }
+// The assembly operation of three letters.
+fn assembly_named(a: u8, b: u8, c: u8) -> Operation
+    ensures { λ r. ⌜ operationView r ≡ assemblyIn (packed a b c) assemblies ⌝ }
 {
-    match key {
-        0x534543 => Operation::Assembles(Assembly::SEC),
-        0x454e44 => Operation::Assembles(Assembly::END),
-        0x54544c => Operation::Assembles(Assembly::TTL),
-        0x454a43 => Operation::Assembles(Assembly::EJC),
-        0x455850 => Operation::Assembles(Assembly::EXP),
-        0x494e50 => Operation::Assembles(Assembly::INP),
-        0x494e52 => Operation::Assembles(Assembly::INR),
-        0x474c42 => Operation::Assembles(Assembly::GLB),
-        0x455155 => Operation::Assembles(Assembly::EQU),
-        0x444143 => Operation::Assembles(Assembly::DAC),
-        0x444943 => Operation::Assembles(Assembly::DIC),
-        0x444243 => Operation::Assembles(Assembly::DBC),
-        0x445443 => Operation::Assembles(Assembly::DTC),
-        _ => Operation::Unknown,
+    let list = assemblies();
+    let found = find_letters_in(&list, a, b, c);
+    let Lookup::Row(i) = found else {
+        return Operation::Unknown;
+    };
+    Operation::Assembles(i as u32)
+}
+
+// A row of the operation table that no row with this first letter stands before: the table is in the order of the alphabet, and has three rows and
+// more a letter on the average.
+fn begins(a: u8) -> usize
+    ensures { λ r. ⌜ (r ≡ begin a) × (r ≤ 75) ⌝ }
+{
+    if a < b'A' {
+        return 0;
     }
+    if b'Z' < a {
+        return 0;
+    }
+    ((a - b'A') as usize) * 3
+}
+
+// The look-up by letters in the rows from one on.
+fn find_from(rows: &[[u8; CELLS]], from: usize, a: u8, b: u8, c: u8) -> Lookup
+    requires { ⌜ from ≤ length (now rows) ⌝ }
+    ensures { λ r. ⌜ AnswersIn (drop from (now (rows .entry))) a b c r ⌝ }
+{
+    find_letters_in(&rows[from..], a, b, c)
 }
 
 // The operation of three letters: a row of the operation table, an assembly operation, or unknown.
@@ -45,11 +59,12 @@ pub fn named(list: &Operations, a: u8, b: u8, c: u8) -> Operation
     requires { ⌜ now list ≡ map cellsOf rows ⌝ }
     ensures { λ r. ⌜ operationView r ≡ operationNamed a b c ⌝ }
 {
-    let found = find_letters_in(list, a, b, c);
+    let from = begins(a);
+    let found = find_from(list, from, a, b, c);
     let Lookup::Row(i) = found else {
-        return assembly_named(pack(a, b, c));
+        return assembly_named(a, b, c);
     };
-    Operation::Operates(i)
+    Operation::Operates(from + i)
 }
 
 // Three bytes are letters.

@@ -5,7 +5,8 @@ use native.Mathlib.Omega.{arith}
 use mathlib.Core.Path.{_≡_, refl, sym, ap, _∙_}
 use mathlib.Core.Bool.{Bool, true, false}
 use lib.Dec.{eqb, leb, leb·zero}
-use borrow.Author.Tests.{eq-eqb, ne-eqb}
+use lib.ListN.{List·getD-eq-default}
+use borrow.Author.Tests.{eq-eqb, ne-eqb, eqb-true, eqb-false}
 use Rattle.base.specs.Test.{_and_, _or_, if, Ok}
 use Rattle.base.proofs.Bool.{ok-eq}
 use Rattle.ops.specs.Class.{decided}
@@ -18,7 +19,7 @@ use Rattle.asm_sections.specs.Codes.{assemblyCode, codeOf}
 
 -- The assembly operations by their numbers.
 
-at-code : (a : Assembly) → assemblyAt (assemblyCode a) ≡ a
+pub at-code : (a : Assembly) → assemblyAt (assemblyCode a) ≡ a
 at-code SEC = refl
 at-code END = refl
 at-code TTL = refl
@@ -53,19 +54,13 @@ unfolding Ok _and_
 code-at n h = ok-eq _ _ (every-at (λ (i : ℕ) (a : Assembly). eqb i (assemblyCode (assemblyAt i))) SEC assemblies tt n h)
 
 pub code-last : (n : ℕ) → 12 ≤ n → 12 ≡ assemblyCode (assemblyAt n)
-code-last zero h = absurd (omega arith)
-code-last (suc zero) h = absurd (omega arith)
-code-last (suc (suc zero)) h = absurd (omega arith)
-code-last (suc (suc (suc zero))) h = absurd (omega arith)
-code-last (suc (suc (suc (suc zero)))) h = absurd (omega arith)
-code-last (suc (suc (suc (suc (suc zero))))) h = absurd (omega arith)
-code-last (suc (suc (suc (suc (suc (suc zero)))))) h = absurd (omega arith)
-code-last (suc (suc (suc (suc (suc (suc (suc zero))))))) h = absurd (omega arith)
-code-last (suc (suc (suc (suc (suc (suc (suc (suc zero)))))))) h = absurd (omega arith)
-code-last (suc (suc (suc (suc (suc (suc (suc (suc (suc zero))))))))) h = absurd (omega arith)
-code-last (suc (suc (suc (suc (suc (suc (suc (suc (suc (suc zero)))))))))) h = absurd (omega arith)
-code-last (suc (suc (suc (suc (suc (suc (suc (suc (suc (suc (suc zero))))))))))) h = absurd (omega arith)
-code-last (suc (suc (suc (suc (suc (suc (suc (suc (suc (suc (suc (suc n)))))))))))) h = refl
+code-last n h = go (eqb n 12) refl
+  where
+    go : (b : Bool) → eqb n 12 ≡ b → 12 ≡ assemblyCode (assemblyAt n)
+    go true q = rw (eqb-true n 12 q) refl
+    go false q =
+        let l : 13 ≤ n = omega (arith, eqb-false n 12 q) in
+        ap assemblyCode (sym (List·getD-eq-default assemblies DTC {n = n} l))
 
 code-eq : (a b : Assembly) → assemblyCode b ≡ assemblyCode a → a ≡ b
 code-eq a b e = sym (at-code a) ∙ ap assemblyAt (sym e) ∙ at-code b

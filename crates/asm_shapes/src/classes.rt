@@ -4,38 +4,46 @@ ghost use mathlib.Core.List.{map};
 ghost use Prim.Native.Nat.{_<_};
 ghost use lib.ListN.{length, getD};
 ghost use Rattle.ops.specs.Class.{classCode};
+ghost use Rattle.ops.specs.Lookup.{IndexOf};
 ghost use Rattle.ops.specs.Ops.{rows, cellsOf};
 ghost use Rattle.rules.specs.Table.{classAt};
 ghost use Rattle.entries.specs.Classes.{ClassesOf};
 ghost use Rattle.table_layout.specs.Laid.{Laid};
 use ops::class::NO_CLASS;
+use ops::lookup;
 use ops::lookup::Lookup;
+use ops::lookup::NumberIndex;
 use ops::lookup::find_number;
-use ops::table::CLASS;
 use ops::table::Operations;
 use table_layout::ENTRY;
 use table_layout::HEADER;
 
 // The class of the entry at p.
-fn class_of(table: &[u32], list: &Operations, p: usize) -> u32
-    requires { ⌜ Laid (now table) × (now list ≡ map cellsOf rows) × (p < getD (now table) 0 0) ⌝ }
+fn class_of(table: &[u32], list: &Operations, numbers: &NumberIndex, p: usize) -> u32
+    requires { ⌜ Laid (now table) × (now list ≡ map cellsOf rows) × (p < getD (now table) 0 0) × IndexOf (now numbers) ⌝ }
     ensures { λ r. ⌜ r ≡ classCode (classAt (now (table .entry)) p) ⌝ }
 {
-    let found = find_number(table[HEADER + ENTRY * p]);
+    let found = find_number(numbers, table[HEADER + ENTRY * p]);
     let Lookup::Row(i) = found else {
         return NO_CLASS;
     };
-    list[i][CLASS]
+    lookup::class_of(&list[i])
 }
 
 // The classes of the n entries, and of the place past the last, are written down.
-pub fn classes_of(table: &[u32], list: &Operations, n: usize, classes: &mut [u32])
-    requires { ⌜ Laid (now table) × (now list ≡ map cellsOf rows) × (n ≡ getD (now table) 0 0) × (n < length (now classes)) ⌝ }
+pub fn classes_of(
+    table: &[u32],
+    list: &Operations,
+    numbers: &NumberIndex,
+    n: usize,
+    classes: &mut [u32],
+)
+    requires { ⌜ Laid (now table) × (now list ≡ map cellsOf rows) × (n ≡ getD (now table) 0 0) × (n < length (now classes)) × IndexOf (now numbers) ⌝ }
     ensures { λ r. ⌜ ClassesOf (now (table .entry)) (now (classes .exit)) ⌝ }
 {
     let mut p: usize = 0;
     while p < n {
-        classes[p] = class_of(table, list, p);
+        classes[p] = class_of(table, list, numbers, p);
         p += 1;
     }
     classes[n] = NO_CLASS;

@@ -5,6 +5,7 @@ ghost use mathlib.Core.List.{map};
 ghost use Prim.Native.Nat.{_≤_, _<_};
 ghost use lib.ListN.{getD};
 ghost use Rattle.ops.specs.Class.{BSW, EXI, JSR};
+ghost use Rattle.ops.specs.Lookup.{IndexOf};
 ghost use Rattle.ops.specs.Ops.{rows, cellsOf};
 ghost use Rattle.rules.specs.Check as Check;
 ghost use Rattle.rules.specs.Table.{classAt};
@@ -18,11 +19,9 @@ use ops::class;
 use ops::class::NO_CLASS;
 use ops::format::NO_KIND;
 use ops::lookup::Lookup;
+use ops::lookup::NumberIndex;
 use ops::lookup::find_number;
-use ops::table::ONE;
 use ops::table::Operations;
-use ops::table::THREE;
-use ops::table::TWO;
 use shape_core::exits;
 use shape_core::exits::Exits;
 use shape_core::reach;
@@ -41,15 +40,15 @@ pub const BAD_LIST: u32 = 6;
 pub const BAD_SHAPE: u32 = 7;
 
 // The operands of the entry at p keep the rules of its row.
-fn fields_ok(table: &[u32], list: &Operations, p: usize) -> bool
-    requires { ⌜ Laid (now table) × (now list ≡ map cellsOf rows) × (p < getD (now table) 0 0) ⌝ }
+fn fields_ok(table: &[u32], list: &Operations, numbers: &NumberIndex, p: usize) -> bool
+    requires { ⌜ Laid (now table) × (now list ≡ map cellsOf rows) × (p < getD (now table) 0 0) × IndexOf (now numbers) ⌝ }
     ensures { λ r. ⌜ r ≡ Check.fieldsOk (now (table .entry)) p rows ⌝ }
 {
-    let found = find_number(table[HEADER + ENTRY * p]);
+    let found = find_number(numbers, table[HEADER + ENTRY * p]);
     let Lookup::Row(i) = found else {
         return false;
     };
-    fields::operands_ok(table, p, list[i][ONE], list[i][TWO], list[i][THREE])
+    fields::row_ok(table, p, &list[i])
 }
 
 // The k exits of the JSR at p stand below it, and it goes on past them.
@@ -164,15 +163,16 @@ pub fn shared_fault(
 pub fn fault_at(
     table: &[u32],
     list: &Operations,
+    numbers: &NumberIndex,
     classes: &[u32],
     body: &[u32],
     n: usize,
     p: usize,
 ) -> u32
-    requires { ⌜ Known (now table) (now classes) (now body) n × (p < n) × (now list ≡ map cellsOf rows) ⌝ }
+    requires { ⌜ Known (now table) (now classes) (now body) n × (p < n) × (now list ≡ map cellsOf rows) × IndexOf (now numbers) ⌝ }
     ensures { λ r. ⌜ r ≡ Check.faultAt (now (table .entry)) p ⌝ }
 {
-    if !fields_ok(table, list, p) {
+    if !fields_ok(table, list, numbers, p) {
         return BAD_OPERAND;
     }
     let f = class_fault(table, classes, body, n, p);

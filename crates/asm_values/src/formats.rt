@@ -14,15 +14,6 @@ use asm_types::Term;
 use ops::constants::Machine;
 use ops::format::*;
 
-// The formats that only cards have: a procedure type, an EQU operand, an address, a signed number.
-pub const PTYP: u32 = 15 * TAG;
-
-pub const EQOP: u32 = 16 * TAG;
-
-pub const ADDR: u32 = 17 * TAG;
-
-pub const INTEGER: u32 = 18 * TAG;
-
 // The tags.
 pub const OPV_TAG: u32 = OPV / TAG;
 

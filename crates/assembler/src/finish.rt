@@ -4,6 +4,7 @@ ghost use mathlib.Core.List.{map};
 ghost use Prim.Native.Nat.{_+_, _≤_};
 ghost use lib.ListN.{length};
 ghost use Rattle.base.specs.Test.{_and_};
+ghost use Rattle.ops.specs.Lookup.{IndexOf};
 ghost use Rattle.ops.specs.Ops.{rows, cellsOf};
 ghost use Rattle.rules.specs.Check.{sectionsOk};
 ghost use Rattle.language.specs.Symbol.{allPlaced};
@@ -23,6 +24,7 @@ use asm_shapes::classes::classes_of;
 use asm_symbols::meanings::all_placed;
 use bodies::body::bodies;
 use ops::constants::Machine;
+use ops::lookup::NumberIndex;
 use ops::table::Operations;
 use table_layout::index;
 use table_layout::sections_ok;
@@ -64,6 +66,7 @@ fn is_within(c: Collected) -> bool
 // The answer, given what is collected and the draft of the table. The lent table is written last.
 pub fn finish(
     list: &Operations,
+    numbers: &NumberIndex,
     text: &[u8],
     syms: &[u64],
     c: Collected,
@@ -72,14 +75,14 @@ pub fn finish(
     body: &mut [u32],
     table: &mut [u32],
 ) -> Assembled
-    requires { ⌜ (now list ≡ map cellsOf rows) × Prepared (now text) (now syms) (now draft) c × (16385 ≤ length (now classes)) × (16385 ≤ length (now body)) ⌝ }
+    requires { ⌜ (now list ≡ map cellsOf rows) × Prepared (now text) (now syms) (now draft) c × (16385 ≤ length (now classes)) × (16385 ≤ length (now body)) × IndexOf (now numbers) ⌝ }
     ensures { λ r. ⌜ Answers (deckOf (now (text .entry))) r (now (table .entry)) (now (table .exit)) ⌝ }
 {
     let n = c.labels;
     let size = index(c.size);
-    classes_of(draft, list, size, classes);
+    classes_of(draft, list, numbers, size, classes);
     bodies(draft, size, body);
-    let v = judge(list, text, syms, n, draft, classes, body, size);
+    let v = judge(list, numbers, text, syms, n, draft, classes, body, size);
     let Verdict::Clear = v else {
         return Assembled::Faulty(fault_in(v));
     };

@@ -1,6 +1,7 @@
 // The first line with a fault, and on it the smallest number [S Numbers the host sees].
 ghost use mathlib.Core.Path.{_≡_};
 ghost use mathlib.Core.List.{map};
+ghost use Rattle.ops.specs.Lookup.{IndexOf};
 ghost use Rattle.ops.specs.Ops.{rows, cellsOf};
 ghost use Rattle.shape_core.specs.Known.{Known};
 ghost use Rattle.language.specs.Card.{cardsOf};
@@ -19,6 +20,7 @@ use asm_faults::fault_of;
 use asm_reader::line_end;
 use asm_types::Card;
 use asm_types::Reader;
+use ops::lookup::NumberIndex;
 use ops::table::Operations;
 
 // The fault that a verdict names: number 0 where there is none.
@@ -34,6 +36,7 @@ pub fn fault_in(v: Verdict) -> Fault
 // The smallest number of a line's faults, or 0.
 fn line_fault(
     list: &Operations,
+    numbers: &NumberIndex,
     c: Card,
     s: &[u8],
     syms: &[u64],
@@ -43,16 +46,17 @@ fn line_fault(
     body: &[u32],
     size: usize,
 ) -> u32
-    requires { ⌜ (now list ≡ map cellsOf rows) × Symbolic (now syms) n × Known (now table) (now classes) (now body) size × PlaceBelow size (cardView c (now s)) ⌝ }
+    requires { ⌜ (now list ≡ map cellsOf rows) × Symbolic (now syms) n × Known (now table) (now classes) (now body) size × PlaceBelow size (cardView c (now s)) × IndexOf (now numbers) ⌝ }
     ensures { λ r. ⌜ OfDeck (λ d. faultOf d (cardView c (now (s .entry)))) (symbolsIn (now (syms .entry)) n) (now (table .entry)) r ⌝ }
 {
-    let shape = shape_fault(list, c, s, syms, n, table, classes, body, size);
+    let shape = shape_fault(list, numbers, c, s, syms, n, table, classes, body, size);
     fault_of(list, c, s, syms, n, shape)
 }
 
 // The first fault of a text.
 pub fn judge(
     list: &Operations,
+    numbers: &NumberIndex,
     text: &[u8],
     syms: &[u64],
     n: usize,
@@ -61,7 +65,7 @@ pub fn judge(
     body: &[u32],
     size: usize,
 ) -> Verdict
-    requires { ⌜ (now list ≡ map cellsOf rows) × Judged (now text) (now syms) n (now table) (now classes) (now body) size ⌝ }
+    requires { ⌜ (now list ≡ map cellsOf rows) × Judged (now text) (now syms) n (now table) (now classes) (now body) size × IndexOf (now numbers) ⌝ }
     ensures { λ r. ⌜ FirstFault (deckFrom (cardsOf (now (text .entry))) (symbolsIn (now (syms .entry)) n) (now (table .entry))) (cardsOf (now (text .entry))) r ⌝ }
 {
     let mut r = Reader {
@@ -77,6 +81,7 @@ pub fn judge(
         let c = card_of(list, r, &text[from..to]);
         let f = line_fault(
             list,
+            numbers,
             c,
             &text[from..to],
             syms,

@@ -10,6 +10,7 @@ use crate::finish::finish;
 use asm_collect::collect;
 use asm_draft::deck::fill;
 use ops::constants::Machine;
+use ops::lookup::number_index;
 use table_layout::ENTRY;
 use table_layout::HEADER;
 
@@ -84,6 +85,7 @@ fn assemble_short(cards: &[u8], table: &mut [u32]) -> Assembled
     ensures { λ r. ⌜ Answers (deckOf (now (cards .entry))) r (now (table .entry)) (now (table .exit)) ⌝ }
 {
     let list = op_table::rows();
+    let numbers = number_index(&list);
     let mut syms = [0u64; SYMBOL_WORDS];
     let c = collect(&list, cards, &mut syms);
     let header = [
@@ -102,6 +104,7 @@ fn assemble_short(cards: &[u8], table: &mut [u32]) -> Assembled
     let mut body = [0u32; PLACES];
     finish(
         &list,
+        &numbers,
         cards,
         &syms,
         c,

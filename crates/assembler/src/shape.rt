@@ -2,6 +2,7 @@
 ghost use mathlib.Core.Path.{_≡_};
 ghost use mathlib.Core.List.{map};
 ghost use Prim.Native.Nat.{_<_};
+ghost use Rattle.ops.specs.Lookup.{IndexOf};
 ghost use Rattle.ops.specs.Ops.{rows, cellsOf};
 ghost use Rattle.shape_core.specs.Known.{Known};
 ghost use Rattle.language.specs.Fault.{isJudged, placeFault, shapeFault};
@@ -16,6 +17,7 @@ use asm_shapes::loose::count_known;
 use asm_shapes::loose::loose_fault;
 use asm_symbols::uses::declared_count;
 use asm_types::Card;
+use ops::lookup::NumberIndex;
 use ops::table::Operations;
 use table_layout::index;
 
@@ -44,6 +46,7 @@ fn is_judged(
 // The fault of the card's place.
 fn place_fault(
     list: &Operations,
+    numbers: &NumberIndex,
     c: Card,
     s: &[u8],
     syms: &[u64],
@@ -53,12 +56,12 @@ fn place_fault(
     body: &[u32],
     size: usize,
 ) -> u32
-    requires { ⌜ (now list ≡ map cellsOf rows) × Symbolic (now syms) n × Known (now table) (now classes) (now body) size × (c .spot .place < size) ⌝ }
+    requires { ⌜ (now list ≡ map cellsOf rows) × Symbolic (now syms) n × Known (now table) (now classes) (now body) size × (c .spot .place < size) × IndexOf (now numbers) ⌝ }
     ensures { λ r. ⌜ OfDeck (λ d. placeFault d (cardView c (now (s .entry)))) (symbolsIn (now (syms .entry)) n) (now (table .entry)) r ⌝ }
 {
     let p = index(c.spot.place);
     if is_judged(list, c, s, syms, n, table, classes, body, size) {
-        return fault_at(table, list, classes, body, size, p);
+        return fault_at(table, list, numbers, classes, body, size, p);
     }
     let name = first_name(list, c, s);
     let count = declared_count(syms, n, name);
@@ -68,6 +71,7 @@ fn place_fault(
 // The shape fault of a card, 0 where it has none or holds no place.
 pub fn shape_fault(
     list: &Operations,
+    numbers: &NumberIndex,
     c: Card,
     s: &[u8],
     syms: &[u64],
@@ -77,11 +81,11 @@ pub fn shape_fault(
     body: &[u32],
     size: usize,
 ) -> u32
-    requires { ⌜ (now list ≡ map cellsOf rows) × Symbolic (now syms) n × Known (now table) (now classes) (now body) size × PlaceBelow size (cardView c (now s)) ⌝ }
+    requires { ⌜ (now list ≡ map cellsOf rows) × Symbolic (now syms) n × Known (now table) (now classes) (now body) size × PlaceBelow size (cardView c (now s)) × IndexOf (now numbers) ⌝ }
     ensures { λ r. ⌜ OfDeck (λ d. shapeFault d (cardView c (now (s .entry)))) (symbolsIn (now (syms .entry)) n) (now (table .entry)) r ⌝ }
 {
     if !holds_place(c) {
         return 0;
     }
-    place_fault(list, c, s, syms, n, table, classes, body, size)
+    place_fault(list, numbers, c, s, syms, n, table, classes, body, size)
 }

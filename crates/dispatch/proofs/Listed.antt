@@ -5,7 +5,7 @@ use mathlib.Core.Path.{_≡_, refl}
 use mathlib.Core.Bool.{Bool, true, false, cond}
 use mathlib.Core.List.{List, [], _∷_}
 use mathlib.Core.Logic.{⊎-elim}
-use lib.Dec.{eqb}
+use lib.Dec.{eqb, ltb}
 use Rattle.base.specs.Test.{Ok, if}
 use Rattle.base.specs.Lists.{_at_, member}
 use Rattle.base.proofs.Bool.{eq-ok, failed, ok-eq, or-cases, or-l, or-r, true-ok}
@@ -14,19 +14,40 @@ use Rattle.ops.specs.Ops.{Row, rows, classIn}
 use Rattle.exec_core.specs.Seen.{Running}
 use Rattle.exec_core.proofs.Steps.{executable-number}
 
--- the numbers of these operations, the last row's first, before those of ns
+-- a number put before the first that is less
+abbrev pub placed : ℕ → List ℕ → List ℕ
+placed n [] = n ∷ []
+placed n (m ∷ ms) = cond (ltb m n) (n ∷ m ∷ ms) (m ∷ placed n ms)
+
+-- the numbers of these operations and of ns, the largest first
 abbrev pub arrivable : List ℕ → List Row → List ℕ
 arrivable ns [] = ns
-arrivable ns (r ∷ rs) = arrivable (cond (isExecutable (r .class)) (r .number ∷ ns) ns) rs
+arrivable ns (r ∷ rs) = arrivable (cond (isExecutable (r .class)) (placed (r .number) ns) ns) rs
 
-member-more : (k n : ℕ) (ns : List ℕ) (b : Bool) → Ok (member k ns) → Ok (member k (cond b (n ∷ ns) ns))
+member-placed : (k n : ℕ) (ns : List ℕ) → Ok (member k ns) → Ok (member k (placed n ns))
 unfolding member
-member-more k n ns true h = or-r _ _ h
+member-placed k n [] h = absurd (failed h)
+member-placed k n (m ∷ ms) h = go (member-placed k n ms) (ltb m n)
+  where
+    go : (Ok (member k ms) → Ok (member k (placed n ms))) → (b : Bool) → Ok (member k (cond b (n ∷ m ∷ ms) (m ∷ placed n ms)))
+    go ih true = or-r _ _ h
+    go ih false = ⊎-elim (λ e. or-l _ _ e) (λ e. or-r _ _ (ih e)) (or-cases _ _ h)
+
+member-there : (k n : ℕ) (ns : List ℕ) → k ≡ n → Ok (member k (placed n ns))
+unfolding member
+member-there k n [] e = or-l _ _ (eq-ok k n e)
+member-there k n (m ∷ ms) e = go (member-there k n ms e) (ltb m n)
+  where
+    go : Ok (member k (placed n ms)) → (b : Bool) → Ok (member k (cond b (n ∷ m ∷ ms) (m ∷ placed n ms)))
+    go ih true = or-l _ _ (eq-ok k n e)
+    go ih false = or-r _ _ ih
+
+member-more : (k n : ℕ) (ns : List ℕ) (b : Bool) → Ok (member k ns) → Ok (member k (cond b (placed n ns) ns))
+member-more k n ns true h = member-placed k n ns h
 member-more k n ns false h = h
 
-member-first : (k n : ℕ) (ns : List ℕ) (b : Bool) → Ok b → k ≡ n → Ok (member k (cond b (n ∷ ns) ns))
-unfolding member
-member-first k n ns true h e = or-l _ _ (eq-ok k n e)
+member-first : (k n : ℕ) (ns : List ℕ) (b : Bool) → Ok b → k ≡ n → Ok (member k (cond b (placed n ns) ns))
+member-first k n ns true h e = member-there k n ns e
 member-first k n ns false h e = absurd (failed h)
 
 member-kept : (k : ℕ) (ns : List ℕ) (rs : List Row) → Ok (member k ns) → Ok (member k (arrivable ns rs))

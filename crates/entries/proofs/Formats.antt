@@ -14,12 +14,13 @@ use Rattle.base.specs.Test.{_and_, _or_, if, Ok}
 use Rattle.base.specs.Lists.{member}
 use Rattle.base.proofs.Bool.{and-l, and-r, if-true, lt-ok, ok-eq, ok-lt, test-true, true-ok}
 use Rattle.ops.specs.Class.{none, classCode}
-use Rattle.ops.specs.Format.{Format, formatWord, noKind, placeKind}
+use Rattle.ops.specs.Format.{Format, formatWord, noKind, placeKind, wordOf}
 use Rattle.ops.specs.Lookup.{firstWith, byNumber, rowOfNumber, rowAt, noRow}
 use Rattle.ops.specs.Ops.{Row, rows, classIn, cellsOf}
 use Rattle.ops.specs.declared.lookup.Lookup.the-variants as found
 use Rattle.ops.proofs.First.{row-known, first-sound}
 use Rattle.ops.proofs.Numbers.{row-of-number}
+use Rattle.ops.proofs.Formats.{row-words}
 use Rattle.ops.proofs.Rows.{number-exactly, rows-count}
 use Rattle.ops.proofs.Every.{every, every-at}
 use Rattle.rules.specs.Check.{registerOk, valueOk, operandOk, thirdOk, fieldsOk, apart}
@@ -175,14 +176,14 @@ module _ (t : List ℕ) (p i : ℕ) (e : rowOfNumber (getD t (8 + 8 * p) 0) ≡ 
 
   -- the same by a row of the constant table
   module _ (cells : List ℕ) (q : cells ≡ cellsOf (rowAt i)) where
-    pub fields-cells : fieldsOk t p rows ≡ fieldsBy t p (getD cells 3 0) (getD cells 4 0) (getD cells 5 0)
-    fields-cells = rw q fields-is
+    pub fields-cells : fieldsOk t p rows ≡ fieldsBy t p (wordOf (getD cells 5 0)) (wordOf (getD cells 6 0)) (wordOf (getD cells 7 0))
+    fields-cells = let w = row-words i (number-exactly _ i .0 e .0) in rw (q, w .0, w .1, w .2) fields-is
 
-    pub entry-cells : entryOk t p ≡ entryBy t p (getD cells 3 0) (getD cells 4 0) (getD cells 5 0)
+    pub entry-cells : entryOk t p ≡ entryBy t p (wordOf (getD cells 5 0)) (wordOf (getD cells 6 0)) (wordOf (getD cells 7 0))
     unfolding entryOk entryBy
     entry-cells = rw fields-cells refl
 
-    pub class-cells : p < getD t 0 0 → getD cells 2 0 ≡ classCode (classAt t p)
+    pub class-cells : p < getD t 0 0 → getD cells 8 0 ≡ classCode (classAt t p)
     class-cells l = rw q (class-is l)
 
 -- an operation that no row has

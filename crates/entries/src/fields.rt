@@ -6,6 +6,7 @@ ghost use Prim.Native.Nat.{ℕ, _+_, _*_, _≤_, _<_, _%_};
 ghost use lib.Dec.{eqb, ltb, leb};
 ghost use lib.ListN.{length, getD};
 ghost use Rattle.base.specs.Test.{_and_, _or_};
+ghost use Rattle.ops.specs.Format.{wordOf};
 ghost use Rattle.ops.specs.Machine.{cfpB, cfpM};
 ghost use Rattle.ops.specs.Ops.{rows, cellsOf};
 ghost use Rattle.rules.specs.Check.{among, registerOk, valueOk, apart};
@@ -13,11 +14,19 @@ ghost use Rattle.rules.specs.Table.{constants, workings};
 ghost use Rattle.table_layout.specs.Laid.{Limited, Laid};
 ghost use Rattle.entries.specs.Classes.{Judged};
 ghost use Rattle.entries.specs.Coded.{takesKind, lastOf, largestOf, formatOf, operandBy, thirdBy, fieldsBy, apartAt, entryBy};
+use ops::cells::word_of;
 use ops::class::NO_CLASS;
 use ops::constants::Machine;
 use ops::format::*;
 use ops::lookup::Lookup;
+use ops::lookup::class_of;
 use ops::lookup::find_number;
+use ops::lookup::number_index;
+use ops::table::CELLS;
+use ops::table::ONE;
+use ops::table::Operations;
+use ops::table::THREE;
+use ops::table::TWO;
 use table_layout::ENTRY;
 use table_layout::HEADER;
 use table_layout::index;
@@ -216,6 +225,20 @@ pub fn apart_at(table: &[u32], p: usize) -> bool
     is_apart(table[b + 1], table[b + 2], table[b + 4], table[b + 5])
 }
 
+// The operands of the entry at place p keep the rules of a row of the constant table.
+pub fn row_ok(table: &[u32], p: usize, row: &[u8; CELLS]) -> bool
+    requires { ⌜ Laid (now table) × (p < getD (now table) 0 0) ⌝ }
+    ensures { λ r. ⌜ r ≡ fieldsBy (now (table .entry)) p (wordOf (getD (now (row .entry)) 5 0)) (wordOf (getD (now (row .entry)) 6 0)) (wordOf (getD (now (row .entry)) 7 0)) ⌝ }
+{
+    operands_ok(
+        table,
+        p,
+        word_of(row[ONE]),
+        word_of(row[TWO]),
+        word_of(row[THREE]),
+    )
+}
+
 // The fields of the entry at place p keep the rules of the formats of its three operands.
 fn entry_ok(table: &[u32], p: usize, one: u32, two: u32, three: u32) -> bool
     requires { ⌜ Laid (now table) × (p < getD (now table) 0 0) ⌝ }
@@ -227,22 +250,37 @@ fn entry_ok(table: &[u32], p: usize, one: u32, two: u32, three: u32) -> bool
     apart_at(table, p)
 }
 
+// The fields of the entry at place p keep the rules of a row, and its registers are apart.
+fn entry_by(table: &[u32], p: usize, row: &[u8; CELLS]) -> bool
+    requires { ⌜ Laid (now table) × (p < getD (now table) 0 0) ⌝ }
+    ensures { λ r. ⌜ r ≡ entryBy (now (table .entry)) p (wordOf (getD (now (row .entry)) 5 0)) (wordOf (getD (now (row .entry)) 6 0)) (wordOf (getD (now (row .entry)) 7 0)) ⌝ }
+{
+    entry_ok(
+        table,
+        p,
+        word_of(row[ONE]),
+        word_of(row[TWO]),
+        word_of(row[THREE]),
+    )
+}
+
 // The fields of every entry keep the rules of its row in a lent copy of the constant table; the classes of all places are written down.
-pub fn fields_ok(table: &[u32], list: &[[u32; 7]; 89], classes: &mut [u32]) -> bool
+pub fn fields_ok(table: &[u32], list: &Operations, classes: &mut [u32]) -> bool
     requires { ⌜ Laid (now table) × (now list ≡ map cellsOf rows) × (getD (now table) 0 0 < length (now classes)) ⌝ }
     ensures { λ r. ⌜ Judged (now (table .entry)) (now (classes .exit)) r ⌝ }
 {
     let n = index(table[0]);
+    let numbers = number_index(list);
     let mut p: usize = 0;
     while p < n {
-        let found = find_number(table[HEADER + ENTRY * p]);
+        let found = find_number(&numbers, table[HEADER + ENTRY * p]);
         let Lookup::Row(i) = found else {
             return false;
         };
-        if !entry_ok(table, p, list[i][3], list[i][4], list[i][5]) {
+        if !entry_by(table, p, &list[i]) {
             return false;
         }
-        classes[p] = list[i][2];
+        classes[p] = class_of(&list[i]);
         p += 1;
     }
     classes[n] = NO_CLASS;

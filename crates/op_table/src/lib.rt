@@ -1,105 +1,109 @@
-// The one constant table of operations [S The house machine]: a row for each, in the order of the paper's items [M section 8].
+// The one constant table of operations [S The house machine], to be laid beside the paper's list [M section 8]: a row for each operation that
+// the house machine has, in the order of that list. As there, a row has the number as section and item, the mnemonic, and its operands.
+// OPT_ stands before an operand that may be left out (the list's star); STILL_ before one that takes no (X)+, and SHIFT for a VAL to 32, as [S Shape
+// rules] has it. PRC's card has a procedure type before its operand, ERR's and ERB's a text after it. The last cell is the control class.
 ghost use mathlib.Core.Path.{_≡_};
 ghost use mathlib.Core.List.{map};
-ghost use Rattle.ops.specs.Lookup.{rowOfLetters};
+ghost use Rattle.ops.specs.Lookup.{Answers};
 ghost use Rattle.ops.specs.Ops.{rows, cellsOf};
-use ops::class::*;
-use ops::format::*;
+use ops::cells::*;
 use ops::lookup::Lookup;
 use ops::lookup::find_letters_in;
 use ops::table::Operations;
 
-// LETTERS, NUMBER, CLASS, ONE, TWO, THREE, BESIDE
+pub mod assembly;
+
+// SECTION, ITEM, LETTERS, ONE, TWO, THREE, CLASS
 const TABLE: Operations = [
-    [0x4d4f56, 101, GOES, OPV, OPN, NONE, NOTHING], // MOV
-    [0x42524e, 102, BRN, PLBL, NONE, NONE, NOTHING], // BRN
-    [0x425357, 103, BSW, X, VAL, OPT_PLBL, NOTHING], // BSW
-    [0x494646, 104, IFF, VAL, PLBL, NONE, NOTHING], // IFF
-    [0x455357, 105, ESW, NONE, NONE, NONE, NOTHING], // ESW
-    [0x454e54, 106, ENT, OPT_VAL, NONE, NONE, NOTHING], // ENT
-    [0x425249, 107, BRI, OPN, NONE, NONE, NOTHING], // BRI
-    [0x4c4549, 108, GOES, X, NONE, NONE, NOTHING], // LEI
-    [0x4a5352, 109, JSR, PNAM, NONE, NONE, NOTHING], // JSR
-    [0x50504d, 110, PPM, OPT_PLBL, NONE, NONE, NOTHING], // PPM
-    [0x505243, 111, PRC, VAL, NONE, NONE, TYPED], // PRC
-    [0x455849, 112, EXI, OPT_INT, NONE, NONE, NOTHING], // EXI
-    [0x454e50, 113, ENP, NONE, NONE, NONE, NOTHING], // ENP
-    [0x455252, 114, ERR, INT, NONE, NONE, TEXT], // ERR
-    [0x455242, 115, ERB, INT, NONE, NONE, TEXT], // ERB
-    [0x494356, 116, GOES, OPN, NONE, NONE, NOTHING], // ICV
-    [0x444356, 117, GOES, OPN, NONE, NONE, NOTHING], // DCV
-    [0x5a4552, 118, GOES, OPN, NONE, NONE, NOTHING], // ZER
-    [0x4d4e5a, 119, GOES, OPN, NONE, NONE, NOTHING], // MNZ
-    [0x53534c, 120, GOES, OPW, NONE, NONE, NOTHING], // SSL
-    [0x535353, 121, SSS, OPW, NONE, NONE, NOTHING], // SSS
-    [0x52544e, 122, RTN, NONE, NONE, NONE, NOTHING], // RTN
-    [0x4a4d47, 123, JMG, GLBL, NONE, NONE, NOTHING], // JMG
-    [0x414444, 201, GOES, OPV, OPN, NONE, NOTHING], // ADD
-    [0x535542, 202, GOES, OPV, OPN, NONE, NOTHING], // SUB
-    [0x494341, 203, GOES, OPN, NONE, NONE, NOTHING], // ICA
-    [0x444341, 204, GOES, OPN, NONE, NONE, NOTHING], // DCA
-    [0x424551, 205, FORKS, STILL_OPN, STILL_OPV, PLBL, NOTHING], // BEQ
-    [0x424e45, 206, FORKS, STILL_OPN, STILL_OPV, PLBL, NOTHING], // BNE
-    [0x424754, 207, FORKS, STILL_OPN, STILL_OPV, PLBL, NOTHING], // BGT
-    [0x424745, 208, FORKS, STILL_OPN, STILL_OPV, PLBL, NOTHING], // BGE
-    [0x424c54, 209, FORKS, STILL_OPN, STILL_OPV, PLBL, NOTHING], // BLT
-    [0x424c45, 210, FORKS, STILL_OPN, STILL_OPV, PLBL, NOTHING], // BLE
-    [0x424c4f, 211, FORKS, STILL_OPN, STILL_OPV, PLBL, NOTHING], // BLO
-    [0x424849, 212, FORKS, STILL_OPN, STILL_OPV, PLBL, NOTHING], // BHI
-    [0x424e5a, 213, FORKS, STILL_OPN, PLBL, NONE, NOTHING], // BNZ
-    [0x425a45, 214, FORKS, STILL_OPN, PLBL, NONE, NOTHING], // BZE
-    [0x4c4354, 215, GOES, W, OPV, NONE, NOTHING], // LCT
-    [0x424354, 216, FORKS, W, PLBL, NONE, NOTHING], // BCT
-    [0x414f56, 217, FORKS, OPV, OPN, PLBL, NOTHING], // AOV
-    [0x4c4449, 401, GOES, OPS, NONE, NONE, NOTHING], // LDI
-    [0x414449, 402, GOES, OPS, NONE, NONE, NOTHING], // ADI
-    [0x4d4c49, 403, GOES, OPS, NONE, NONE, NOTHING], // MLI
-    [0x534249, 404, GOES, OPS, NONE, NONE, NOTHING], // SBI
-    [0x445649, 405, GOES, OPS, NONE, NONE, NOTHING], // DVI
-    [0x524d49, 406, GOES, OPS, NONE, NONE, NOTHING], // RMI
-    [0x535449, 407, GOES, OPS, NONE, NONE, NOTHING], // STI
-    [0x4e4749, 408, GOES, NONE, NONE, NONE, NOTHING], // NGI
-    [0x494e4f, 409, FORKS, PLBL, NONE, NONE, NOTHING], // INO
-    [0x494f56, 410, FORKS, PLBL, NONE, NONE, NOTHING], // IOV
-    [0x494551, 411, FORKS, PLBL, NONE, NONE, NOTHING], // IEQ
-    [0x494745, 412, FORKS, PLBL, NONE, NONE, NOTHING], // IGE
-    [0x494754, 413, FORKS, PLBL, NONE, NONE, NOTHING], // IGT
-    [0x494c45, 414, FORKS, PLBL, NONE, NONE, NOTHING], // ILE
-    [0x494c54, 415, FORKS, PLBL, NONE, NONE, NOTHING], // ILT
-    [0x494e45, 416, FORKS, PLBL, NONE, NONE, NOTHING], // INE
-    [0x504c43, 601, GOES, X, OPT_OPV, NONE, NOTHING], // PLC
-    [0x505343, 602, GOES, X, OPT_OPV, NONE, NOTHING], // PSC
-    [0x4c4348, 603, GOES, REG, OPC, NONE, NOTHING], // LCH
-    [0x534348, 604, GOES, REG, OPC, NONE, NOTHING], // SCH
-    [0x435343, 605, GOES, X, NONE, NONE, NOTHING], // CSC
-    [0x434551, 606, FORKS, STILL_OPW, STILL_OPW, PLBL, NOTHING], // CEQ
-    [0x434e45, 607, FORKS, STILL_OPW, STILL_OPW, PLBL, NOTHING], // CNE
-    [0x434d43, 608, FORKS, PLBL, PLBL, NONE, NOTHING], // CMC
-    [0x545243, 609, GOES, NONE, NONE, NONE, NOTHING], // TRC
-    [0x414e42, 701, GOES, OPW, W, NONE, NOTHING], // ANB
-    [0x4f5242, 702, GOES, OPW, W, NONE, NOTHING], // ORB
-    [0x584f42, 703, GOES, OPW, W, NONE, NOTHING], // XOB
-    [0x434d42, 704, GOES, W, NONE, NONE, NOTHING], // CMB
-    [0x525348, 705, GOES, W, SHIFT, NONE, NOTHING], // RSH
-    [0x4c5348, 706, GOES, W, SHIFT, NONE, NOTHING], // LSH
-    [0x525358, 707, GOES, W, X, NONE, NOTHING], // RSX
-    [0x4c5358, 708, GOES, W, X, NONE, NOTHING], // LSX
-    [0x4e5a42, 709, FORKS, W, PLBL, NONE, NOTHING], // NZB
-    [0x5a5242, 710, FORKS, W, PLBL, NONE, NOTHING], // ZRB
-    [0x5a4742, 711, GOES, OPN, NONE, NONE, NOTHING], // ZGB
-    [0x575442, 801, GOES, REG, NONE, NONE, NOTHING], // WTB
-    [0x425457, 802, GOES, REG, NONE, NONE, NOTHING], // BTW
-    [0x4d5449, 803, GOES, OPN, NONE, NONE, NOTHING], // MTI
-    [0x4d4649, 804, FORKS, OPN, OPT_PLBL, NONE, NOTHING], // MFI
-    [0x435457, 807, GOES, W, VAL, NONE, NOTHING], // CTW
-    [0x435442, 808, GOES, W, VAL, NONE, NOTHING], // CTB
-    [0x425443, 809, GOES, W, NONE, NONE, NOTHING], // BTC
-    [0x575443, 810, GOES, W, NONE, NONE, NOTHING], // WTC
-    [0x43564d, 811, FORKS, PLBL, NONE, NONE, NOTHING], // CVM
-    [0x435644, 812, GOES, NONE, NONE, NONE, NOTHING], // CVD
-    [0x4d5643, 901, GOES, NONE, NONE, NONE, NOTHING], // MVC
-    [0x4d5657, 903, GOES, NONE, NONE, NONE, NOTHING], // MVW
-    [0x43484b, 1001, CHK, NONE, NONE, NONE, NOTHING], // CHK
+    [2, 1, b'A', b'D', b'D', OPV, OPN, NONE, GOES],
+    [4, 2, b'A', b'D', b'I', OPS, NONE, NONE, GOES],
+    [7, 1, b'A', b'N', b'B', OPW, W, NONE, GOES],
+    [2, 17, b'A', b'O', b'V', OPV, OPN, PLBL, FORKS],
+    [2, 16, b'B', b'C', b'T', W, PLBL, NONE, FORKS],
+    [2, 5, b'B', b'E', b'Q', STILL_OPN, STILL_OPV, PLBL, FORKS],
+    [2, 8, b'B', b'G', b'E', STILL_OPN, STILL_OPV, PLBL, FORKS],
+    [2, 7, b'B', b'G', b'T', STILL_OPN, STILL_OPV, PLBL, FORKS],
+    [2, 12, b'B', b'H', b'I', STILL_OPN, STILL_OPV, PLBL, FORKS],
+    [2, 10, b'B', b'L', b'E', STILL_OPN, STILL_OPV, PLBL, FORKS],
+    [2, 11, b'B', b'L', b'O', STILL_OPN, STILL_OPV, PLBL, FORKS],
+    [2, 9, b'B', b'L', b'T', STILL_OPN, STILL_OPV, PLBL, FORKS],
+    [2, 6, b'B', b'N', b'E', STILL_OPN, STILL_OPV, PLBL, FORKS],
+    [2, 13, b'B', b'N', b'Z', STILL_OPN, PLBL, NONE, FORKS],
+    [1, 2, b'B', b'R', b'N', PLBL, NONE, NONE, BRN],
+    [1, 7, b'B', b'R', b'I', OPN, NONE, NONE, BRI],
+    [1, 3, b'B', b'S', b'W', X, VAL, OPT_PLBL, BSW],
+    [8, 9, b'B', b'T', b'C', W, NONE, NONE, GOES],
+    [8, 2, b'B', b'T', b'W', REG, NONE, NONE, GOES],
+    [2, 14, b'B', b'Z', b'E', STILL_OPN, PLBL, NONE, FORKS],
+    [6, 6, b'C', b'E', b'Q', STILL_OPW, STILL_OPW, PLBL, FORKS],
+    [10, 1, b'C', b'H', b'K', NONE, NONE, NONE, CHK],
+    [7, 4, b'C', b'M', b'B', W, NONE, NONE, GOES],
+    [6, 8, b'C', b'M', b'C', PLBL, PLBL, NONE, FORKS],
+    [6, 7, b'C', b'N', b'E', STILL_OPW, STILL_OPW, PLBL, FORKS],
+    [6, 5, b'C', b'S', b'C', X, NONE, NONE, GOES],
+    [8, 8, b'C', b'T', b'B', W, VAL, NONE, GOES],
+    [8, 7, b'C', b'T', b'W', W, VAL, NONE, GOES],
+    [8, 12, b'C', b'V', b'D', NONE, NONE, NONE, GOES],
+    [8, 11, b'C', b'V', b'M', PLBL, NONE, NONE, FORKS],
+    [2, 4, b'D', b'C', b'A', OPN, NONE, NONE, GOES],
+    [1, 17, b'D', b'C', b'V', OPN, NONE, NONE, GOES],
+    [4, 5, b'D', b'V', b'I', OPS, NONE, NONE, GOES],
+    [1, 13, b'E', b'N', b'P', NONE, NONE, NONE, ENP],
+    [1, 6, b'E', b'N', b'T', OPT_VAL, NONE, NONE, ENT],
+    [1, 15, b'E', b'R', b'B', INT, NONE, NONE, ERB],
+    [1, 14, b'E', b'R', b'R', INT, NONE, NONE, ERR],
+    [1, 5, b'E', b'S', b'W', NONE, NONE, NONE, ESW],
+    [1, 12, b'E', b'X', b'I', OPT_INT, NONE, NONE, EXI],
+    [2, 3, b'I', b'C', b'A', OPN, NONE, NONE, GOES],
+    [1, 16, b'I', b'C', b'V', OPN, NONE, NONE, GOES],
+    [4, 11, b'I', b'E', b'Q', PLBL, NONE, NONE, FORKS],
+    [1, 4, b'I', b'F', b'F', VAL, PLBL, NONE, IFF],
+    [4, 12, b'I', b'G', b'E', PLBL, NONE, NONE, FORKS],
+    [4, 13, b'I', b'G', b'T', PLBL, NONE, NONE, FORKS],
+    [4, 14, b'I', b'L', b'E', PLBL, NONE, NONE, FORKS],
+    [4, 15, b'I', b'L', b'T', PLBL, NONE, NONE, FORKS],
+    [4, 16, b'I', b'N', b'E', PLBL, NONE, NONE, FORKS],
+    [4, 9, b'I', b'N', b'O', PLBL, NONE, NONE, FORKS],
+    [4, 10, b'I', b'O', b'V', PLBL, NONE, NONE, FORKS],
+    [1, 23, b'J', b'M', b'G', GLBL, NONE, NONE, JMG],
+    [1, 9, b'J', b'S', b'R', PNAM, NONE, NONE, JSR],
+    [6, 3, b'L', b'C', b'H', REG, OPC, NONE, GOES],
+    [2, 15, b'L', b'C', b'T', W, OPV, NONE, GOES],
+    [4, 1, b'L', b'D', b'I', OPS, NONE, NONE, GOES],
+    [1, 8, b'L', b'E', b'I', X, NONE, NONE, GOES],
+    [7, 6, b'L', b'S', b'H', W, SHIFT, NONE, GOES],
+    [7, 8, b'L', b'S', b'X', W, X, NONE, GOES],
+    [8, 4, b'M', b'F', b'I', OPN, OPT_PLBL, NONE, FORKS],
+    [4, 3, b'M', b'L', b'I', OPS, NONE, NONE, GOES],
+    [1, 19, b'M', b'N', b'Z', OPN, NONE, NONE, GOES],
+    [1, 1, b'M', b'O', b'V', OPV, OPN, NONE, GOES],
+    [8, 3, b'M', b'T', b'I', OPN, NONE, NONE, GOES],
+    [9, 1, b'M', b'V', b'C', NONE, NONE, NONE, GOES],
+    [9, 3, b'M', b'V', b'W', NONE, NONE, NONE, GOES],
+    [4, 8, b'N', b'G', b'I', NONE, NONE, NONE, GOES],
+    [7, 9, b'N', b'Z', b'B', W, PLBL, NONE, FORKS],
+    [7, 2, b'O', b'R', b'B', OPW, W, NONE, GOES],
+    [6, 1, b'P', b'L', b'C', X, OPT_OPV, NONE, GOES],
+    [1, 10, b'P', b'P', b'M', OPT_PLBL, NONE, NONE, PPM],
+    [1, 11, b'P', b'R', b'C', VAL, NONE, NONE, PRC],
+    [6, 2, b'P', b'S', b'C', X, OPT_OPV, NONE, GOES],
+    [4, 6, b'R', b'M', b'I', OPS, NONE, NONE, GOES],
+    [7, 5, b'R', b'S', b'H', W, SHIFT, NONE, GOES],
+    [7, 7, b'R', b'S', b'X', W, X, NONE, GOES],
+    [1, 22, b'R', b'T', b'N', NONE, NONE, NONE, RTN],
+    [4, 4, b'S', b'B', b'I', OPS, NONE, NONE, GOES],
+    [6, 4, b'S', b'C', b'H', REG, OPC, NONE, GOES],
+    [1, 20, b'S', b'S', b'L', OPW, NONE, NONE, GOES],
+    [1, 21, b'S', b'S', b'S', OPW, NONE, NONE, SSS],
+    [4, 7, b'S', b'T', b'I', OPS, NONE, NONE, GOES],
+    [2, 2, b'S', b'U', b'B', OPV, OPN, NONE, GOES],
+    [6, 9, b'T', b'R', b'C', NONE, NONE, NONE, GOES],
+    [8, 1, b'W', b'T', b'B', REG, NONE, NONE, GOES],
+    [8, 10, b'W', b'T', b'C', W, NONE, NONE, GOES],
+    [7, 3, b'X', b'O', b'B', OPW, W, NONE, GOES],
+    [1, 18, b'Z', b'E', b'R', OPN, NONE, NONE, GOES],
+    [7, 11, b'Z', b'G', b'B', OPN, NONE, NONE, GOES],
+    [7, 10, b'Z', b'R', b'B', W, PLBL, NONE, FORKS],
 ];
 
 // The table, to be taken into a local once and lent: each call of this is a copy.
@@ -109,9 +113,10 @@ pub fn rows() -> Operations
     TABLE
 }
 
-// The row that holds three letters. It copies the table: a loop over cards lends its own to `find_letters_in`.
+// The look-up by three letters: row i exactly where row i has these letters, unknown exactly where no row has [02 Wish 4].
+// It copies the table: a loop over cards lends its own to `find_letters_in`.
 pub fn find_letters(a: u8, b: u8, c: u8) -> Lookup
-    ensures { λ r. ⌜ r ≡ rowOfLetters a b c ⌝ }
+    ensures { λ r. ⌜ Answers a b c r ⌝ }
 {
     let rows = rows();
     find_letters_in(&rows, a, b, c)

@@ -17,6 +17,7 @@ pub enum Task {
     Run,
     Freeze,
     Wake,
+    Operations,
 }
 
 // The most files that a command takes.
@@ -32,6 +33,7 @@ fn help() {
   torzimlak run CARDS [WORD ...]              runs the program, and says how it ended
   torzimlak freeze CARDS SNAPSHOT [WORD ...]  runs it, and writes the machine to a file
   torzimlak wake CARDS SNAPSHOT [WORD ...]    wakes the machine, and runs on
+  torzimlak operations [MNEMONIC]             lists the operations, or shows one
   torzimlak help                              shows this
 
 CARDS have at most 32,768 bytes. A TABLE holds words of 4 bytes, the low byte first.
@@ -56,7 +58,8 @@ assemble takes CARDS and TABLE
 check takes TABLE
 run takes CARDS, then fresh words
 freeze takes CARDS and SNAPSHOT, then fresh words
-wake takes CARDS and SNAPSHOT, then fresh words",
+wake takes CARDS and SNAPSHOT, then fresh words
+operations takes nothing, or a MNEMONIC",
             command,
         ),
         &[],
@@ -70,6 +73,7 @@ fn task_of(command: usize) -> Task {
         3 => Task::Run,
         4 => Task::Freeze,
         5 => Task::Wake,
+        6 => Task::Operations,
         _ => Task::Nothing,
     }
 }
@@ -106,9 +110,20 @@ fn word_of(line: &[u8], k: usize) -> &[u8] {
     &line[at..end]
 }
 
-// Whether a word of a line stands behind the names of its files: it is empty, or says that fresh words follow.
+// Whether a word of a line names an argument that may be left out.
+fn is_optional(word: &[u8]) -> bool {
+    if word.len() == 0 {
+        return false;
+    }
+    word[0] == b'['
+}
+
+// Whether a word of a line stands behind the names of its files: it is empty, says that fresh words follow, or names what may be left out.
 fn is_end(word: &[u8]) -> bool {
     if word.len() == 0 {
+        return true;
+    }
+    if is_optional(word) {
         return true;
     }
     same(word, b"...")
@@ -135,7 +150,13 @@ fn takes(line: &[u8], files: usize, count: usize) -> bool
     if word_of(line, files + 1).len() == 0 {
         return count == files + 2;
     }
-    files + 2 <= count
+    if count < files + 2 {
+        return false;
+    }
+    if is_optional(word_of(line, files + 1)) {
+        return count <= files + 3;
+    }
+    true
 }
 
 // Whether argument i can be a path; one that is empty or too long is told of under its name.
@@ -215,7 +236,8 @@ fn found(commands: &[u8], name: &[u8], count: usize) -> Task {
     judged(line_of(commands, k), k, count)
 }
 
-// The task that the arguments ask for. Each command has a line here: its name, the names of its files, and `...` where fresh words may follow.
+// The task that the arguments ask for. Each command has a line here: its name, the names of its files, and `...` where fresh
+// words may follow, or in brackets what may be left out.
 pub fn asked() -> Task {
     let count = os::arg_count();
     let mut name = [0u8; 16];
@@ -234,7 +256,8 @@ assemble CARDS TABLE
 check TABLE
 run CARDS ...
 freeze CARDS SNAPSHOT ...
-wake CARDS SNAPSHOT ...",
+wake CARDS SNAPSHOT ...
+operations [MNEMONIC]",
         &name[..n],
         count,
     )

@@ -18,13 +18,16 @@ use Rattle.op_table.proofs.rows.Reads as rows-reads
 rows-requires : tie.Need-rows-requires
 rows-requires c κs = search needs
 
+number-index-requires : tie.Need-number-index-requires
+number-index-requires c κs = search needs
+
 -- src/lib.rt:78:35
 slice-aggregate-collect : tie.Need-slice-aggregate-collect
 slice-aggregate-collect c = search needs
 
 -- src/lib.rt:78:9
 collect-requires : tie.Need-collect-requires
-collect-requires c κs = (c .before .before .rows .ensures, c .before .before .before .before .before .pre, search needs)
+collect-requires c κs = (c .before .before .before .before .rows .ensures, c .before .before .before .before .before .before .before .pre, search needs)
 
 -- src/lib.rt:81:35
 slice-aggregate-fill : tie.Need-slice-aggregate-fill
@@ -36,7 +39,7 @@ slice-aggregate-fill-2 c = search needs
 
 -- src/lib.rt:81:9
 fill-requires : tie.Need-fill-requires
-fill-requires c κs = (c .before .before .before .before .before .before .before .rows .ensures, c .before .before .before .before .collect .ensures .symbolic, c .before .before .before .before .before .before .before .before .before .before .pre, search needs, c .before .before .before .before .collect .ensures .header-is)
+fill-requires c κs = (c .before .before .before .before .before .before .before .before .before .rows .ensures, c .before .before .before .before .collect .ensures .symbolic, c .before .before .before .before .before .before .before .before .before .before .before .before .pre, search needs, c .before .before .before .before .collect .ensures .header-is)
 
 -- src/lib.rt:87:9
 slice-aggregate-finish : tie.Need-slice-aggregate-finish
@@ -53,9 +56,9 @@ part-finish-start c = search needs
 -- src/lib.rt:89:9
 part-finish-end : tie.Need-part-finish-end
 part-finish-end c =
-    let w = c .before .before .before .before .fill .last .1 .1 .1 .1 .1 .0 in
-    let e : length w ≡ 180240 = c .before .before .before .before .fill .ensures .same ∙ length-replicate {A = ℕ} 180240 0 in
-    subst (λ (m : ℕ). c .before .before .before .before .fill .result ≤ m) (sym e) (c .before .before .before .before .fill .ensures .end-le)
+    let w = c .before .before .before .before .before .fill .last .1 .1 .1 .1 .1 .0 in
+    let e : length w ≡ 180240 = c .before .before .before .before .before .fill .ensures .same ∙ length-replicate {A = ℕ} 180240 0 in
+    subst (λ (m : ℕ). c .before .before .before .before .before .fill .result ≤ m) (sym e) (c .before .before .before .before .before .fill .ensures .end-le)
 
 -- src/lib.rt:90:9
 slice-aggregate-finish-2 : tie.Need-slice-aggregate-finish-2
@@ -68,7 +71,7 @@ slice-aggregate-finish-3 c = search needs
 -- src/lib.rt:84:5
 finish-requires : tie.Need-finish-requires
 finish-requires c κs =
-    (c .before .before .before .before .before .before .before .before .before .before .before .before .before .before .before .before .rows .ensures, prepared _ _ (c .before .before .before .before .before .before .before .before .fill .last .1 .1 .1 .1 .1 .0) _ (c .before .before .before .before .before .before .before .before .fill .result) (c .before .before .before .before .before .before .before .before .before .before .before .before .before .before .before .before .before .before .before .pre) (c .before .before .before .before .before .before .before .before .before .before .before .before .before .collect .ensures) (c .before .before .before .before .before .before .before .before .fill .ensures .image-is), search needs, search needs)
+    (c .before .before .before .before .before .before .before .before .before .before .before .before .before .before .before .before .before .before .before .rows .ensures, prepared _ _ (c .before .before .before .before .before .before .before .before .before .fill .last .1 .1 .1 .1 .1 .0) _ (c .before .before .before .before .before .before .before .before .before .fill .result) (c .before .before .before .before .before .before .before .before .before .before .before .before .before .before .before .before .before .before .before .before .before .before .pre) (c .before .before .before .before .before .before .before .before .before .before .before .before .before .before .collect .ensures) (c .before .before .before .before .before .before .before .before .before .fill .ensures .image-is), search needs, search needs, c .before .before .before .before .before .before .before .before .before .before .before .before .before .before .before .before .before .number-index .ensures)
 
 -- src/lib.rt:72:1
 same-length : tie.Need-same-length
@@ -83,6 +86,7 @@ assemble-short-spec =
     tie.close
     (tie.spec
     rows-requires
+    number-index-requires
     slice-aggregate-collect
     collect-requires
     slice-aggregate-fill

@@ -13,8 +13,8 @@ use Rattle.asm_draft.proofs.cards.row_entry.Statement.{statement}
 use Rattle.asm_draft.proofs.cards.row_entry.Tie as tie
 
 -- src/cards.rt:47:9
-cell-requires : tie.Need-cell-requires
-cell-requires c κs = search needs
+number-of-requires : tie.Need-number-of-requires
+number-of-requires c κs = search needs
 
 -- src/cards.rt:48:9
 type-count-requires : tie.Need-type-count-requires
@@ -50,13 +50,13 @@ third-of-requires c κs = subst PlaceFits (sym (c .outcome-at2 .ensures)) (outco
 
 -- src/cards.rt:42:1
 returns : tie.Need-returns
-returns c = entry-is _ _ _ _ _ _ _ _ _ (c .before .before .before .before .before .before .cell .ensures) (c .before .before .before .before .before .type-count .ensures .0) (c .before .before .before .before .first-operand .ensures) (subst (λ (o : Outcome). FieldsOf o (c .before .before .given-of .result)) (c .before .before .before .outcome-at .ensures) (c .before .before .given-of .ensures)) (c .third-of .ensures ∙ ap thirdOf (c .before .outcome-at2 .ensures))
+returns c = entry-is _ _ _ _ _ _ _ _ _ (c .before .before .before .before .before .before .number-of .ensures) (c .before .before .before .before .before .type-count .ensures .0) (c .before .before .before .before .first-operand .ensures) (subst (λ (o : Outcome). FieldsOf o (c .before .before .given-of .result)) (c .before .before .before .outcome-at .ensures) (c .before .before .given-of .ensures)) (c .third-of .ensures ∙ ap thirdOf (c .before .outcome-at2 .ensures))
 
 pub row-entry-spec : {M : Type 1} → statement M
 row-entry-spec =
     tie.close
     (tie.spec
-    cell-requires
+    number-of-requires
     type-count-requires
     first-operand-requires
     add-outcome-at

@@ -20,10 +20,6 @@ mul-result : tie.Need-mul-result
 mul-result c = search needs
 
 -- src/codes.rt:80:16
-mul-result-2 : tie.Need-mul-result-2
-mul-result-2 c = search needs
-
--- src/codes.rt:80:16
 index-1-result : tie.Need-index-1-result
 index-1-result c = search needs
 
@@ -50,7 +46,6 @@ cell-spec =
     (tie.spec
     row-index-requires
     mul-result
-    mul-result-2
     index-1-result
     index-2-result
     returns

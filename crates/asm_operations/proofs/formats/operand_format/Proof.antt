@@ -23,10 +23,13 @@ add-cell c = search needs
 cell-requires : tie.Need-cell-requires
 cell-requires c κs = (c .before .pre, omega arith, none-cell (c .before .args .i) (omega arith))
 
+word-of-requires : tie.Need-word-of-requires
+word-of-requires c κs = search needs
+
 -- src/formats.rt:69:1
 returns-2 : tie.Need-returns-2
 unfolding operandFormat if
-returns-2 c = c .cell .ensures ∙ rw (lt-leb 3 _ (c .before .if1 .left))
+returns-2 c = c .word-of .ensures ∙ rw (lt-leb 3 _ (c .before .before .if1 .left), c .before .cell .ensures)
 
 pub operand-format-spec : {M : Type 1} → statement M
-operand-format-spec = tie.close (tie.spec returns add-cell cell-requires returns-2)
+operand-format-spec = tie.close (tie.spec returns add-cell cell-requires word-of-requires returns-2)

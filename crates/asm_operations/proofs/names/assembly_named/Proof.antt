@@ -1,97 +1,65 @@
--- `asm_operations::names::assembly_named` meets its contract: an arm for each operation.
+-- `asm_operations::names::assembly_named` meets its contract: the row found tells the operation.
 -- Assumes nothing.
-use Rattle.base.specs.Test.{if}
-use borrow.Author.Tests.{ne-eqb}
+use Prim.Native.Nat.{_<_}
+use native.Mathlib.Omega.{arith}
+use mathlib.Core.Path.{sym, _∙_}
+use borrow.Author.Needs.{needs}
+use lib.ListN.{length}
+use Rattle.ops.specs.Assembly.{assemblies, assemblyCells}
+use Rattle.ops.specs.Ops.{packed}
+use Rattle.ops.proofs.First.{cells-count}
+use Rattle.ops.proofs.Letters.{assembly-answers}
+use Rattle.asm_operations.proofs.Assembled.{assembly-found, assembly-nowhere}
 use Rattle.asm_operations.proofs.names.assembly_named.Statement.{statement}
 use Rattle.asm_operations.proofs.names.assembly_named.Tie as tie
 
--- src/names.rt:15:1
+assemblies-requires : tie.Need-assemblies-requires
+assemblies-requires c κs = search needs
+
+slice-aggregate-find-letters-in : tie.Need-slice-aggregate-find-letters-in
+slice-aggregate-find-letters-in c = search needs
+
+find-letters-in-requires : tie.Need-find-letters-in-requires
+find-letters-in-requires c κs = search needs
+
+enum-known-found : tie.Need-enum-known-found
+enum-known-found c = search needs
+
+enum-told : tie.Need-enum-told
+enum-told c = search needs
+
 returns : tie.Need-returns
-unfolding if
-returns c = rw (c .match .keys1)
+returns c =
+    let f = c .before .before in
+    let a = f .before .before .before .args in
+    assembly-nowhere (packed (a .a) (a .b) (a .c))
+    (sym (assembly-answers _ (f .before .before .assemblies .ensures) (a .a) (a .b) (a .c) (omega arith) (omega arith) _ (f .find-letters-in .ensures))
+    ∙ c .enum-told .given .1)
 
--- src/names.rt:15:1
+cast-t10 : tie.Need-cast-t10
+cast-t10 c =
+    let f = c .before .before .before in
+    let l = cells-count assemblyCells assemblies _ (f .before .before .assemblies .ensures) in
+    let i : c .before .found .given .0 .0 < 13 = rw (← l) (f .find-letters-in .ensures .row (c .before .found .given .0 .0) .0 (c .before .found .given .1) .0) in
+    search needs
+
 returns-2 : tie.Need-returns-2
-unfolding if
-returns-2 c = rw (c .match .keys2)
-
--- src/names.rt:15:1
-returns-3 : tie.Need-returns-3
-unfolding if
-returns-3 c = rw (c .match .keys3)
-
--- src/names.rt:15:1
-returns-4 : tie.Need-returns-4
-unfolding if
-returns-4 c = rw (c .match .keys4)
-
--- src/names.rt:15:1
-returns-5 : tie.Need-returns-5
-unfolding if
-returns-5 c = rw (c .match .keys5)
-
--- src/names.rt:15:1
-returns-6 : tie.Need-returns-6
-unfolding if
-returns-6 c = rw (c .match .keys6)
-
--- src/names.rt:15:1
-returns-7 : tie.Need-returns-7
-unfolding if
-returns-7 c = rw (c .match .keys7)
-
--- src/names.rt:15:1
-returns-8 : tie.Need-returns-8
-unfolding if
-returns-8 c = rw (c .match .keys8)
-
--- src/names.rt:15:1
-returns-9 : tie.Need-returns-9
-unfolding if
-returns-9 c = rw (c .match .keys9)
-
--- src/names.rt:15:1
-returns-10 : tie.Need-returns-10
-unfolding if
-returns-10 c = rw (c .match .keys10)
-
--- src/names.rt:15:1
-returns-11 : tie.Need-returns-11
-unfolding if
-returns-11 c = rw (c .match .keys11)
-
--- src/names.rt:15:1
-returns-12 : tie.Need-returns-12
-unfolding if
-returns-12 c = rw (c .match .keys12)
-
--- src/names.rt:15:1
-returns-13 : tie.Need-returns-13
-unfolding if
-returns-13 c = rw (c .match .keys13)
-
--- src/names.rt:15:1
-returns-14 : tie.Need-returns-14
-unfolding if
-returns-14 c =
-    let r = c .match .rest in
-    rw (ne-eqb _ 5457219 (r .0 .0 .0 .0 .0 .0 .0 .0 .0 .0 .0 .0 .1), ne-eqb _ 4542020 (r .0 .0 .0 .0 .0 .0 .0 .0 .0 .0 .0 .1), ne-eqb _ 5526604 (r .0 .0 .0 .0 .0 .0 .0 .0 .0 .0 .1), ne-eqb _ 4540995 (r .0 .0 .0 .0 .0 .0 .0 .0 .0 .1), ne-eqb _ 4544592 (r .0 .0 .0 .0 .0 .0 .0 .0 .1), ne-eqb _ 4804176 (r .0 .0 .0 .0 .0 .0 .0 .1), ne-eqb _ 4804178 (r .0 .0 .0 .0 .0 .0 .1), ne-eqb _ 4672578 (r .0 .0 .0 .0 .0 .1), ne-eqb _ 4542805 (r .0 .0 .0 .0 .1), ne-eqb _ 4473155 (r .0 .0 .0 .1), ne-eqb _ 4475203 (r .0 .0 .1), ne-eqb _ 4473411 (r .0 .1), ne-eqb _ 4478019 (r .1))
+returns-2 c =
+    let f = c .before .before .before in
+    let a = f .before .before .before .args in
+    assembly-found (packed (a .a) (a .b) (a .c)) _
+    (sym (assembly-answers _ (f .before .before .assemblies .ensures) (a .a) (a .b) (a .c) (omega arith) (omega arith) _ (f .find-letters-in .ensures))
+    ∙ c .before .found .given .1)
 
 pub assembly-named-spec : {M : Type 1} → statement M
 assembly-named-spec =
     tie.close
     (tie.spec
+    assemblies-requires
+    slice-aggregate-find-letters-in
+    find-letters-in-requires
+    enum-known-found
+    enum-told
     returns
-    returns-2
-    returns-3
-    returns-4
-    returns-5
-    returns-6
-    returns-7
-    returns-8
-    returns-9
-    returns-10
-    returns-11
-    returns-12
-    returns-13
-    returns-14)
+    cast-t10
+    returns-2)

@@ -1,49 +1,61 @@
 -- `asm_operations::names::named` meets its contract: a row, or an assembly operation.
 -- Assumes nothing.
-use Rattle.language.specs.Operation.{operationNamed}
+use native.Mathlib.Omega.{arith}
 use mathlib.Core.Path.{_∙_}
+use Rattle.language.specs.Operation.{operationNamed}
+use Rattle.asm_operations.proofs.Begins.{row-from, unknown-from, inside-from}
 use borrow.Author.Needs.{needs}
 use Rattle.asm_operations.proofs.names.named.Statement.{statement}
 use Rattle.asm_operations.proofs.names.named.Tie as tie
 
--- src/names.rt:41:9
-find-letters-in-requires : tie.Need-find-letters-in-requires
-find-letters-in-requires c κs = search needs
+begins-requires : tie.Need-begins-requires
+begins-requires c κs = search needs
 
--- src/names.rt:42:21
+find-from-requires : tie.Need-find-from-requires
+find-from-requires c κs = search needs
+
 enum-known-found : tie.Need-enum-known-found
 enum-known-found c = search needs
 
--- src/names.rt:43:31
 enum-told : tie.Need-enum-told
 enum-told c = search needs
 
--- src/names.rt:43:31
-pack-requires : tie.Need-pack-requires
-pack-requires c κs = search needs
-
--- src/names.rt:43:9
 assembly-named-requires : tie.Need-assembly-named-requires
 assembly-named-requires c κs = search needs
 
--- src/names.rt:43:9
 returns : tie.Need-returns
 unfolding operationNamed
-returns c = c .assembly-named .ensures ∙ rw (c .before .pack .ensures, ← c .before .before .before .before .find-letters-in .ensures, c .before .before .enum-told .given .1)
+returns c =
+    let f = c .before .before .before in
+    let a = f .before .before .before in
+    let g = f .before .before .begins .ensures in
+    c .assembly-named .ensures
+    ∙ rw (← unknown-from (a .args .list .now) (a .pre) (a .args .a) (a .args .b) (a .args .c) _ (g .0) (g .1) _ (f .find-from .ensures) (omega arith) (omega arith) (c .before .enum-told .given .1))
 
--- src/names.rt:37:1
+add-t10 : tie.Need-add-t10
+add-t10 c =
+    let f = c .before .before .before in
+    let a = f .before .before .before in
+    let g = f .before .before .begins .ensures in
+    omega (arith, inside-from (a .args .list .now) (a .pre) (a .args .a) (a .args .b) (a .args .c) _ (g .0) (g .1) _ (f .find-from .ensures) _ (c .before .found .given .1))
+
 returns-2 : tie.Need-returns-2
 unfolding operationNamed
-returns-2 c = rw (← c .before .before .before .find-letters-in .ensures, c .before .found .given .1)
+returns-2 c =
+    let f = c .before .before .before in
+    let a = f .before .before .before in
+    let g = f .before .before .begins .ensures in
+    rw (← row-from (a .args .list .now) (a .pre) (a .args .a) (a .args .b) (a .args .c) _ (g .0) (g .1) _ (f .find-from .ensures) _ (c .before .found .given .1))
 
 pub named-spec : {M : Type 1} → statement M
 named-spec =
     tie.close
     (tie.spec
-    find-letters-in-requires
+    begins-requires
+    find-from-requires
     enum-known-found
     enum-told
-    pack-requires
     assembly-named-requires
     returns
+    add-t10
     returns-2)

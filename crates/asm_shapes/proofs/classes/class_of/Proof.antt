@@ -2,8 +2,8 @@
 -- Assumes nothing.
 use Rattle.entries.proofs.Formats.{class-cells, class-unknown, row-inside}
 use Rattle.ops.proofs.Rows.{table-row}
-use lib.ListN.{getD}
 use mathlib.Core.List.{[]}
+use lib.ListN.{getD}
 use native.Mathlib.Omega.{arith}
 use mathlib.Core.Path.{sym, _∙_}
 use borrow.Author.Needs.{needs}
@@ -41,25 +41,41 @@ enum-known-found c = search needs
 enum-told : tie.Need-enum-told
 enum-told c = search needs
 
--- src/classes.rt:26:9
 returns : tie.Need-returns
-returns c = class-unknown (c .before .before .before .before .before .args .table .now) (c .before .before .before .before .before .args .p) (sym (c .before .before .find-number .ensures) ∙ c .enum-told .given .1) (c .before .before .before .before .before .pre .2)
+returns c =
+    let a = c .before .before .before .before .before in
+    class-unknown (a .args .table .now) (a .args .p) (sym (c .before .before .find-number .ensures) ∙ c .enum-told .given .1) (a .pre .2)
 
--- src/classes.rt:28:5
-mul-result : tie.Need-mul-result
-mul-result c = omega (arith, row-inside (c .before .before .before .before .before .before .args .table .now) (c .before .before .before .before .before .before .args .p) (c .before .found .given .0 .0) (sym (c .before .before .before .find-number .ensures) ∙ c .before .found .given .1))
+mul-class-of : tie.Need-mul-class-of
+mul-class-of c =
+    let a = c .before .before .before .before .before .before in
+    let t = a .args .table .now in
+    let p = a .args .p in
+    let i = c .before .found .given .0 .0 in
+    let e = sym (c .before .before .before .find-number .ensures) ∙ c .before .found .given .1 in
+    omega (arith, row-inside t p i e)
 
--- src/classes.rt:28:5
-index-1-result : tie.Need-index-1-result
-index-1-result c = omega (arith, row-inside (c .before .before .before .before .before .before .args .table .now) (c .before .before .before .before .before .before .args .p) (c .before .found .given .0 .0) (sym (c .before .before .before .find-number .ensures) ∙ c .before .found .given .1))
+index-1-class-of : tie.Need-index-1-class-of
+index-1-class-of c =
+    let a = c .before .before .before .before .before .before in
+    let t = a .args .table .now in
+    let p = a .args .p in
+    let i = c .before .found .given .0 .0 in
+    let e = sym (c .before .before .before .find-number .ensures) ∙ c .before .found .given .1 in
+    omega (arith, row-inside t p i e)
 
--- src/classes.rt:28:5
-index-2-result : tie.Need-index-2-result
-index-2-result c = search needs
+class-of-requires : tie.Need-class-of-requires
+class-of-requires c κs = search needs
 
--- src/classes.rt:20:1
 returns-2 : tie.Need-returns-2
-returns-2 c = class-cells (c .before .before .before .before .before .before .before .args .table .now) (c .before .before .before .before .before .before .before .args .p) (c .before .before .found .given .0 .0) (sym (c .before .before .before .before .find-number .ensures) ∙ c .before .before .found .given .1) (getD (c .before .before .before .before .before .before .before .args .list .now) (c .before .before .found .given .0 .0) []) (table-row (c .before .before .before .before .before .before .before .args .list .now) (c .before .before .before .before .before .before .before .pre .1) (c .before .before .found .given .0 .0) (row-inside (c .before .before .before .before .before .before .before .args .table .now) (c .before .before .before .before .before .before .before .args .p) (c .before .before .found .given .0 .0) (sym (c .before .before .before .before .find-number .ensures) ∙ c .before .before .found .given .1))) (c .before .before .before .before .before .before .before .pre .2)
+returns-2 c =
+    let a = c .before .before .before .before .before .before .before .before in
+    let t = a .args .table .now in
+    let p = a .args .p in
+    let i = c .before .before .before .found .given .0 .0 in
+    let e = sym (c .before .before .before .before .before .find-number .ensures) ∙ c .before .before .before .found .given .1 in
+    c .class-of .ensures
+    ∙ class-cells t p i e (getD (a .args .list .now) i []) (table-row (a .args .list .now) (a .pre .1) i (row-inside t p i e)) (a .pre .2)
 
 pub class-of-spec : {M : Type 1} → statement M
 class-of-spec =
@@ -73,7 +89,7 @@ class-of-spec =
     enum-known-found
     enum-told
     returns
-    mul-result
-    index-1-result
-    index-2-result
+    mul-class-of
+    index-1-class-of
+    class-of-requires
     returns-2)

@@ -16,10 +16,10 @@ use Rattle.asm_shapes.proofs.classes.classes_of.Lts as lts
 use Rattle.asm_shapes.proofs.classes.class_of.Reads as class-of-reads
 
 abbrev Inv-loop : tie.InvT-loop
-Inv-loop table list n classes₀ p₀ classes p = (p ≤ n) × (length classes ≡ length classes₀) × ((q : ℕ) → q < p → getD classes q 0 ≡ classCode (classAt table q))
+Inv-loop table list numbers n classes₀ p₀ classes p = (p ≤ n) × (length classes ≡ length classes₀) × ((q : ℕ) → q < p → getD classes q 0 ≡ classCode (classAt table q))
 
 abbrev μ-loop : tie.MeasureT-loop
-μ-loop table list n classes₀ p₀ classes p = n - p
+μ-loop table list numbers n classes₀ p₀ classes p = n - p
 
 -- src/classes.rt:37:5
 loop-holds : tie.Need-loop-holds Inv-loop μ-loop
@@ -27,7 +27,7 @@ loop-holds c = (omega arith, refl, λ q h. absurd (omega arith))
 
 -- src/classes.rt:38:22
 class-of-requires : tie.Need-class-of-requires Inv-loop μ-loop
-class-of-requires c κs = (c .before .before .before .before .pre .0, c .before .before .before .before .pre .1, omega (arith, c .before .before .before .before .pre .2))
+class-of-requires c κs = (c .before .before .before .before .pre .0, c .before .before .before .before .pre .1, omega (arith, c .before .before .before .before .pre .2), c .before .before .before .before .pre .4)
 
 -- src/classes.rt:38:9
 mul-classes : tie.Need-mul-classes Inv-loop μ-loop

@@ -11,7 +11,6 @@ use Rattle.asm_shapes.proofs.faults.fields_ok.Statement.{statement}
 use Rattle.asm_shapes.proofs.faults.fields_ok.Tie as tie
 use Rattle.asm_shapes.proofs.faults.fields_ok.Reads as reads
 use Rattle.asm_shapes.proofs.faults.fields_ok.Lts as lts
-use Rattle.entries.proofs.fields.operands_ok.Reads as operands-ok-reads
 use Rattle.ops.proofs.lookup.find_number.Reads as find-number-reads
 
 -- src/faults.rt:48:44
@@ -42,53 +41,41 @@ enum-known-found c = search needs
 enum-told : tie.Need-enum-told
 enum-told c = search needs
 
--- src/faults.rt:50:9
 returns : tie.Need-returns
-returns c = sym (fields-unknown (c .before .before .before .before .before .args .table .now) (c .before .before .before .before .before .args .p) (sym (c .before .before .find-number .ensures) ∙ c .enum-told .given .1))
+returns c =
+    let a = c .before .before .before .before .before in
+    sym (fields-unknown (a .args .table .now) (a .args .p) (sym (c .before .before .find-number .ensures) ∙ c .enum-told .given .1))
 
--- src/faults.rt:52:35
-mul-operands-ok : tie.Need-mul-operands-ok
-mul-operands-ok c = omega (arith, row-inside (c .before .before .before .before .before .before .args .table .now) (c .before .before .before .before .before .before .args .p) (c .before .found .given .0 .0) (sym (c .before .before .before .find-number .ensures) ∙ c .before .found .given .1))
+mul-row-ok : tie.Need-mul-row-ok
+mul-row-ok c =
+    let a = c .before .before .before .before .before .before in
+    let t = a .args .table .now in
+    let p = a .args .p in
+    let i = c .before .found .given .0 .0 in
+    let e = sym (c .before .before .before .find-number .ensures) ∙ c .before .found .given .1 in
+    omega (arith, row-inside t p i e)
 
--- src/faults.rt:52:35
-index-1-operands-ok : tie.Need-index-1-operands-ok
-index-1-operands-ok c = omega (arith, row-inside (c .before .before .before .before .before .before .args .table .now) (c .before .before .before .before .before .before .args .p) (c .before .found .given .0 .0) (sym (c .before .before .before .find-number .ensures) ∙ c .before .found .given .1))
+index-1-row-ok : tie.Need-index-1-row-ok
+index-1-row-ok c =
+    let a = c .before .before .before .before .before .before in
+    let t = a .args .table .now in
+    let p = a .args .p in
+    let i = c .before .found .given .0 .0 in
+    let e = sym (c .before .before .before .find-number .ensures) ∙ c .before .found .given .1 in
+    omega (arith, row-inside t p i e)
 
--- src/faults.rt:52:35
-index-2-operands-ok : tie.Need-index-2-operands-ok
-index-2-operands-ok c = search needs
+row-ok-requires : tie.Need-row-ok-requires
+row-ok-requires c κs = search needs
 
--- src/faults.rt:52:49
-mul-operands-ok-2 : tie.Need-mul-operands-ok-2
-mul-operands-ok-2 c = omega (arith, row-inside (c .before .before .before .before .before .before .before .args .table .now) (c .before .before .before .before .before .before .before .args .p) (c .before .before .found .given .0 .0) (sym (c .before .before .before .before .find-number .ensures) ∙ c .before .before .found .given .1))
-
--- src/faults.rt:52:49
-index-1-operands-ok-2 : tie.Need-index-1-operands-ok-2
-index-1-operands-ok-2 c = omega (arith, row-inside (c .before .before .before .before .before .before .before .args .table .now) (c .before .before .before .before .before .before .before .args .p) (c .before .before .found .given .0 .0) (sym (c .before .before .before .before .find-number .ensures) ∙ c .before .before .found .given .1))
-
--- src/faults.rt:52:49
-index-2-operands-ok-2 : tie.Need-index-2-operands-ok-2
-index-2-operands-ok-2 c = search needs
-
--- src/faults.rt:52:63
-mul-operands-ok-3 : tie.Need-mul-operands-ok-3
-mul-operands-ok-3 c = omega (arith, row-inside (c .before .before .before .before .before .before .before .before .args .table .now) (c .before .before .before .before .before .before .before .before .args .p) (c .before .before .before .found .given .0 .0) (sym (c .before .before .before .before .before .find-number .ensures) ∙ c .before .before .before .found .given .1))
-
--- src/faults.rt:52:63
-index-1-operands-ok-3 : tie.Need-index-1-operands-ok-3
-index-1-operands-ok-3 c = omega (arith, row-inside (c .before .before .before .before .before .before .before .before .args .table .now) (c .before .before .before .before .before .before .before .before .args .p) (c .before .before .before .found .given .0 .0) (sym (c .before .before .before .before .before .find-number .ensures) ∙ c .before .before .before .found .given .1))
-
--- src/faults.rt:52:63
-index-2-operands-ok-3 : tie.Need-index-2-operands-ok-3
-index-2-operands-ok-3 c = search needs
-
--- src/faults.rt:52:5
-operands-ok-requires : tie.Need-operands-ok-requires
-operands-ok-requires c κs = search needs
-
--- src/faults.rt:44:1
 returns-2 : tie.Need-returns-2
-returns-2 c = c .operands-ok .ensures ∙ sym (fields-cells (c .before .before .before .before .before .before .before .before .before .before .args .table .now) (c .before .before .before .before .before .before .before .before .before .before .args .p) (c .before .before .before .before .before .found .given .0 .0) (sym (c .before .before .before .before .before .before .before .find-number .ensures) ∙ c .before .before .before .before .before .found .given .1) (getD (c .before .before .before .before .before .before .before .before .before .before .args .list .now) (c .before .before .before .before .before .found .given .0 .0) []) (table-row (c .before .before .before .before .before .before .before .before .before .before .args .list .now) (c .before .before .before .before .before .before .before .before .before .before .pre .1) (c .before .before .before .before .before .found .given .0 .0) (row-inside (c .before .before .before .before .before .before .before .before .before .before .args .table .now) (c .before .before .before .before .before .before .before .before .before .before .args .p) (c .before .before .before .before .before .found .given .0 .0) (sym (c .before .before .before .before .before .before .before .find-number .ensures) ∙ c .before .before .before .before .before .found .given .1))))
+returns-2 c =
+    let a = c .before .before .before .before .before .before .before .before in
+    let t = a .args .table .now in
+    let p = a .args .p in
+    let i = c .before .before .before .found .given .0 .0 in
+    let e = sym (c .before .before .before .before .before .find-number .ensures) ∙ c .before .before .before .found .given .1 in
+    c .row-ok .ensures
+    ∙ sym (fields-cells t p i e (getD (a .args .list .now) i []) (table-row (a .args .list .now) (a .pre .1) i (row-inside t p i e)))
 
 pub fields-ok-spec : {M : Type 1} → statement M
 fields-ok-spec =
@@ -102,14 +89,7 @@ fields-ok-spec =
     enum-known-found
     enum-told
     returns
-    mul-operands-ok
-    index-1-operands-ok
-    index-2-operands-ok
-    mul-operands-ok-2
-    index-1-operands-ok-2
-    index-2-operands-ok-2
-    mul-operands-ok-3
-    index-1-operands-ok-3
-    index-2-operands-ok-3
-    operands-ok-requires
+    mul-row-ok
+    index-1-row-ok
+    row-ok-requires
     returns-2)

@@ -26,7 +26,7 @@ index-requires c κs = search needs
 -- src/finish.rt:91:5
 classes-of-requires : tie.Need-classes-of-requires
 classes-of-requires c κs =
-    (laid-is _ _ _ _ (c .before .before .before .before .before .before .before .before .pre .1), c .before .before .before .before .before .before .before .before .pre .0, c .before .index .ensures ∙ size-is _ _ _ _ (c .before .before .before .before .before .before .before .before .pre .1), omega (arith, c .before .index .ensures, c .before .before .before .before .before .before .before .before .pre .1 .collected .size-le, c .before .before .before .before .before .before .before .before .pre .2))
+    (laid-is _ _ _ _ (c .before .before .before .before .before .before .before .before .pre .1), c .before .before .before .before .before .before .before .before .pre .0, c .before .index .ensures ∙ size-is _ _ _ _ (c .before .before .before .before .before .before .before .before .pre .1), omega (arith, c .before .index .ensures, c .before .before .before .before .before .before .before .before .pre .1 .collected .size-le, c .before .before .before .before .before .before .before .before .pre .2), c .before .before .before .before .before .before .before .before .pre .4)
 
 -- src/finish.rt:92:5
 bodies-requires : tie.Need-bodies-requires
@@ -36,7 +36,7 @@ bodies-requires c κs =
 -- src/finish.rt:93:9
 judge-requires : tie.Need-judge-requires
 judge-requires c κs =
-    (c .before .before .before .before .before .before .before .before .before .before .before .before .before .before .before .before .before .pre .0, judged-by _ _ _ _ (c .before .before .before .before .before .before .before .before .before .before .before .before .before .before .before .before .before .pre .1) _ (c .before .before .before .before .before .before .before .before .before .before .index .ensures) _ _ (omega (arith, c .before .before .before .before .before .before .before .before .before .before .index .ensures, c .before .before .before .before .before .before .before .before .before .before .before .before .before .before .before .before .before .pre .1 .collected .size-le, c .before .before .before .before .before .before .before .before .before .before .before .before .before .before .before .before .before .pre .2, c .before .before .before .before .before .before .before .before .classes-of .kept .1 .1 .1 .0)) (c .before .before .before .before .before .before .before .before .classes-of .ensures) (c .before .before .before .before .bodies .ensures))
+    (c .before .before .before .before .before .before .before .before .before .before .before .before .before .before .before .before .before .pre .0, judged-by _ _ _ _ (c .before .before .before .before .before .before .before .before .before .before .before .before .before .before .before .before .before .pre .1) _ (c .before .before .before .before .before .before .before .before .before .before .index .ensures) _ _ (omega (arith, c .before .before .before .before .before .before .before .before .before .before .index .ensures, c .before .before .before .before .before .before .before .before .before .before .before .before .before .before .before .before .before .pre .1 .collected .size-le, c .before .before .before .before .before .before .before .before .before .before .before .before .before .before .before .before .before .pre .2, c .before .before .before .before .before .before .before .before .classes-of .kept .1 .1 .1 .1 .0)) (c .before .before .before .before .before .before .before .before .classes-of .ensures) (c .before .before .before .before .bodies .ensures), c .before .before .before .before .before .before .before .before .before .before .before .before .before .before .before .before .before .pre .4)
 
 enum-told : tie.Need-enum-told
 enum-told c = search needs
@@ -119,8 +119,8 @@ returns-4 c =
     (c .before .before .before .before .before .before .is-within .ensures) (not-false _ (c .before .before .before .before .before .if2 .left)) _ _ (c .before .before .before .is-placed .ensures) (not-true _ (c .if3 .taken))
 
 -- src/finish.rt:107:21
-cast-t27 : tie.Need-cast-t27
-cast-t27 c = omega (arith, short-table _ _ _ _ (c .before .before .before .before .before .before .before .before .before .before .before .before .before .before .before .before .before .before .before .before .before .before .before .before .before .before .before .before .before .pre .1))
+cast-t28 : tie.Need-cast-t28
+cast-t28 c = omega (arith, short-table _ _ _ _ (c .before .before .before .before .before .before .before .before .before .before .before .before .before .before .before .before .before .before .before .before .before .before .before .before .before .before .before .before .before .pre .1))
 
 -- src/finish.rt:76:1
 same-length-10 : tie.Need-same-length-10
@@ -167,7 +167,7 @@ finish-spec =
     same-length-8
     same-length-9
     returns-4
-    cast-t27
+    cast-t28
     same-length-10
     same-length-11
     same-length-12

@@ -22,11 +22,11 @@ use Rattle.asm_answers.proofs.verdict.verdict_of.Reads as verdict-of-reads
 use Rattle.assembler.proofs.judge.line_fault.Reads as line-fault-reads
 
 abbrev Inv-loop : tie.InvT-loop
-Inv-loop list text syms n table classes body size r₀ from₀ r from =
+Inv-loop list numbers text syms n table classes body size r₀ from₀ r from =
     Judging text (deckFrom (cardsOf text) (symbolsIn syms n) table) size (readerView r) from
 
 abbrev μ-loop : tie.MeasureT-loop
-μ-loop list text syms n table classes body size r₀ from₀ r from = length text + 1 - from
+μ-loop list numbers text syms n table classes body size r₀ from₀ r from = length text + 1 - from
 
 -- src/judge.rt:70:5
 loop-holds : tie.Need-loop-holds Inv-loop μ-loop
@@ -67,7 +67,7 @@ part-line-fault-end c = omega (arith, c .before .before .line-end .ensures .1)
 -- src/judge.rt:73:13
 line-fault-requires : tie.Need-line-fault-requires Inv-loop μ-loop
 line-fault-requires c κs =
-    (c .before .before .before .before .before .before .before .before .before .before .before .pre .0, c .before .before .before .before .before .before .before .before .before .before .before .pre .1 .symbolic, c .before .before .before .before .before .before .before .before .before .before .before .pre .1 .known, place-below _ _ _ _ _ _ (c .before .before .before .before .before .loop .inv) (c .before .before .before .before .loop-test .taken) (c .before .before .before .line-end .ensures .0) _ (c .before .card-of .ensures))
+    (c .before .before .before .before .before .before .before .before .before .before .before .pre .0, c .before .before .before .before .before .before .before .before .before .before .before .pre .1 .symbolic, c .before .before .before .before .before .before .before .before .before .before .before .pre .1 .known, place-below _ _ _ _ _ _ (c .before .before .before .before .before .loop .inv) (c .before .before .before .before .loop-test .taken) (c .before .before .before .line-end .ensures .0) _ (c .before .card-of .ensures), c .before .before .before .before .before .before .before .before .before .before .before .pre .2)
 
 -- src/judge.rt:71:17
 verdict-of-requires : tie.Need-verdict-of-requires Inv-loop μ-loop

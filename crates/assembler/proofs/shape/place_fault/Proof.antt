@@ -12,10 +12,10 @@ index-requires : tie.Need-index-requires
 index-requires c κs = search needs
 
 is-judged-requires : tie.Need-is-judged-requires
-is-judged-requires c κs = c .before .before .before .before .before .before .pre
+is-judged-requires c κs = let q = c .before .before .before .before .before .before .pre in (q .0, q .1, q .2, q .3)
 
 fault-at-requires : tie.Need-fault-at-requires
-fault-at-requires c κs = (c .before .before .before .before .before .before .before .before .pre .2, omega (arith, c .before .before .index .ensures, c .before .before .before .before .before .before .before .before .pre .3), c .before .before .before .before .before .before .before .before .pre .0)
+fault-at-requires c κs = (c .before .before .before .before .before .before .before .before .pre .2, omega (arith, c .before .before .index .ensures, c .before .before .before .before .before .before .before .before .pre .3), c .before .before .before .before .before .before .before .before .pre .0, c .before .before .before .before .before .before .before .before .pre .4)
 
 returns : tie.Need-returns
 unfolding placeFault

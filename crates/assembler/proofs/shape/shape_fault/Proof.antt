@@ -17,7 +17,7 @@ returns c cs = sym (if-no _ _ _ (sym (c .before .holds-place .ensures (c .before
 
 place-fault-requires : tie.Need-place-fault-requires
 place-fault-requires c κs =
-    (c .before .before .before .before .before .before .before .pre .0, c .before .before .before .before .before .before .before .pre .1, c .before .before .before .before .before .before .before .pre .2, c .before .before .before .before .before .before .before .pre .3 (sym (c .before .holds-place .ensures (c .before .before .before .before .before .before .before .args .s .now)) ∙ not-false _ (c .if1 .left)))
+    (c .before .before .before .before .before .before .before .pre .0, c .before .before .before .before .before .before .before .pre .1, c .before .before .before .before .before .before .before .pre .2, c .before .before .before .before .before .before .before .pre .3 (sym (c .before .holds-place .ensures (c .before .before .before .before .before .before .before .args .s .now)) ∙ not-false _ (c .if1 .left)), c .before .before .before .before .before .before .before .pre .4)
 
 returns-2 : tie.Need-returns-2
 unfolding shapeFault
