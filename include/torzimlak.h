@@ -69,8 +69,8 @@ enum {
 };
 
 /*
- * Bytes of stack that are enough for a call of torzimlak_assemble, and of each other function. The code itself takes at most 1,078,952
- * bytes, torzimlak_run 20,568, torzimlak_resume 19,368, each other function under 18,500; the rest is for memcpy and memset, of which a
+ * Bytes of stack that are enough for a call of torzimlak_assemble, and of each other function. The code itself takes at most 1,079,096
+ * bytes, torzimlak_run 20,872, torzimlak_resume 19,672, each other function under 18,800; the rest is for memcpy and memset, of which a
  * loader that binds them at their first call takes some thousands.
  */
 enum {

@@ -200,7 +200,7 @@ static int tidy(void) {
 }
 
 /* Each call, its answer, whether it leaves a state, and the most bytes of stack that the header says the code takes. */
-enum { OTHERS = 18499 };
+enum { OTHERS = 18799 };
 static const struct {
     const char *name;
     void (*call)(void);
@@ -208,9 +208,9 @@ static const struct {
     int leaves_state;
     size_t most;
 } calls[] = {
-    {"assemble", call_assemble, 0, 0, 1078952}, {"check_table", call_check_table, 0, 0, OTHERS}, {"warm_start", call_warm_start, 0, 1, OTHERS}, {"start", call_start, 0, 1, OTHERS},
-    {"check_state", call_check_state, 0, 0, OTHERS}, {"run", call_run, WAITING, 1, 20568}, {"write", call_write, 0, 0, OTHERS},
-    {"restore", call_restore, 0, 1, OTHERS}, {"resume", call_resume, 0, 1, 19368},
+    {"assemble", call_assemble, 0, 0, 1079096}, {"check_table", call_check_table, 0, 0, OTHERS}, {"warm_start", call_warm_start, 0, 1, OTHERS}, {"start", call_start, 0, 1, OTHERS},
+    {"check_state", call_check_state, 0, 0, OTHERS}, {"run", call_run, WAITING, 1, 20872}, {"write", call_write, 0, 0, OTHERS},
+    {"restore", call_restore, 0, 1, OTHERS}, {"resume", call_resume, 0, 1, 19672},
 };
 
 /* Cards of a program that translates a long string and waits, with a long switch whose values share one remainder by 1,024. */
