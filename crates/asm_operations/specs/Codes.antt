@@ -39,6 +39,16 @@ unfoldable pub rowFormat : Row → ℕ → ℕ
 rowFormat r i =
     if (eqb (classCode (r .class)) (classCode (marks PRC))) (if (eqb i 0) (formatWord PTYP) (operandFormat r (i - 1))) (operandFormat r i)
 
+-- how many formats there are: of the assembly operation of code n, and of a row
+unfoldable pub assemblyCount : ℕ → ℕ
+assemblyCount n = if (eqb (firstFormat n) (formatWord NONE)) 0 (if (leb n 5) 2 1)
+
+unfoldable pub rowCount : Row → ℕ
+rowCount r =
+    if (eqb (getD (cellsOf r) 5 0) 0) 0
+    (if (eqb (classCode (r .class)) (classCode (marks PRC))) 2
+    (if (eqb (getD (cellsOf r) 6 0) 0) 1 (if (eqb (getD (cellsOf r) 7 0) 0) 2 3)))
+
 -- where the look-up of a row with the first letter a begins: three rows a letter of the alphabet
 unfoldable pub begin : ℕ → ℕ
 begin a = if (ltb a 65) 0 (if (ltb 90 a) 0 ((a - 65) * 3))

@@ -7,7 +7,7 @@ ghost use Rattle.ops.specs.Format as Format;
 ghost use Rattle.ops.specs.Ops.{rows, cellsOf};
 ghost use Rattle.language.specs.Operation.{formatsOf, hasText};
 ghost use Rattle.asm_types.specs.Views.{operationView};
-ghost use Rattle.asm_operations.specs.Codes.{assemblyFormat, firstFormat, operandFormat, rowFormat, rowOf};
+ghost use Rattle.asm_operations.specs.Codes.{assemblyCount, assemblyFormat, firstFormat, operandFormat, rowCount, rowFormat, rowOf};
 use crate::codes::cell;
 use crate::codes::class_of;
 use asm_sections::codes;
@@ -110,22 +110,47 @@ pub fn format_at(list: &Operations, o: Operation, i: usize) -> u32
     row_format(list, o, i)
 }
 
+// How many formats the assembly operation of code n has.
+fn assembly_count(n: u32) -> usize
+    ensures { λ r. ⌜ r ≡ assemblyCount n ⌝ }
+{
+    if first_format(n) == NONE {
+        return 0;
+    }
+    if n <= Assembly::INP {
+        return 2;
+    }
+    1
+}
+
+// How many formats a row has: its operands, and before that of PRC a procedure type.
+fn row_count(list: &Operations, o: Operation) -> usize
+    requires { ⌜ now list ≡ map cellsOf rows ⌝ }
+    ensures { λ r. ⌜ r ≡ rowCount (rowOf (operationView o)) ⌝ }
+{
+    if cell(list, o, table::ONE, cells::NONE) == cells::NONE {
+        return 0;
+    }
+    if class_of(list, o) == class::PRC {
+        return 2;
+    }
+    if cell(list, o, table::TWO, cells::NONE) == cells::NONE {
+        return 1;
+    }
+    if cell(list, o, table::THREE, cells::NONE) == cells::NONE {
+        return 2;
+    }
+    3
+}
+
 // How many formats there are.
 pub fn format_count(list: &Operations, o: Operation) -> usize
     requires { ⌜ now list ≡ map cellsOf rows ⌝ }
     ensures { λ r. ⌜ r ≡ length (formatsOf (operationView o)) ⌝ }
 {
-    if format_at(list, o, 0) == NONE {
-        return 0;
+    let n = code_of(o);
+    if n < codes::EMPTY {
+        return assembly_count(n);
     }
-    if format_at(list, o, 1) == NONE {
-        return 1;
-    }
-    if format_at(list, o, 2) == NONE {
-        return 2;
-    }
-    if format_at(list, o, 3) == NONE {
-        return 3;
-    }
-    4
+    row_count(list, o)
 }

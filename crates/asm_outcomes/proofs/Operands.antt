@@ -13,13 +13,15 @@ use lib.Seq.{drop-cons}
 use Rattle.base.specs.Test.{_and_}
 use Rattle.base.proofs.Bool.{by-if}
 use Rattle.ops.specs.Format.{Format, NONE, formatWord, noKind}
+use Rattle.ops.specs.Ops.{Row}
 use Rattle.language.specs.Operation.{Operation, formatsOf}
 use Rattle.language.specs.Form.{Form, formOf, formless, writtenForms}
 use Rattle.language.specs.Card.{Card}
 use Rattle.language.specs.Symbol.{Symbol}
 use Rattle.language.specs.Operand.{Outcome, awaits, gives, misfits, missing, operandAt, operandOf, operandsOf, outcomes, unnamed}
 use Rattle.asm_types.specs.Views.{cutForm}
-use Rattle.asm_operations.proofs.FormatWords.{count-by, countBy, wordAt}
+use Rattle.asm_operations.specs.Codes.{assemblyCount, rowCount}
+use Rattle.asm_operations.proofs.FormatWords.{count-by}
 use Rattle.asm_values.specs.Read.{formatOf}
 use Rattle.asm_operands.specs.LineCard.{lineCard}
 use Rattle.asm_operands.proofs.ReadBack.{format-read, operand-read}
@@ -87,15 +89,21 @@ module _ (all : List Symbol) (c : Card) where
           ∙ sym (by-index (formatsOf (c .operation)) (writtenForms (c .operation) (c .line)) i h k)
 
 -- at most four formats
+assembly-le : (n : ℕ) → assemblyCount n ≤ 4
+unfolding assemblyCount
+assembly-le n =
+    by-if (λ (k : ℕ). k ≤ 4) _ _ _ (λ e. omega arith) (λ e. by-if (λ (k : ℕ). k ≤ 4) _ _ _ (λ e. omega arith) (λ e. omega arith))
+
+row-le : (r : Row) → rowCount r ≤ 4
+unfolding rowCount
+row-le r =
+    by-if (λ (k : ℕ). k ≤ 4) _ _ _ (λ e. omega arith)
+    (λ e. by-if (λ (k : ℕ). k ≤ 4) _ _ _ (λ e. omega arith)
+    (λ e. by-if (λ (k : ℕ). k ≤ 4) _ _ _ (λ e. omega arith)
+    (λ e. by-if (λ (k : ℕ). k ≤ 4) _ _ _ (λ e. omega arith) (λ e. omega arith))))
+
 pub formats-le : (o : Operation) → length (formatsOf o) ≤ 4
-formats-le o = rw (count-by o) (go (wordAt (formatsOf o)))
-  where
-    go : (w : ℕ → ℕ) → countBy w ≤ 4
-    go w =
-        by-if (λ (n : ℕ). n ≤ 4) _ _ _ (λ e. omega arith)
-        (λ e. by-if (λ (n : ℕ). n ≤ 4) _ _ _ (λ e. omega arith)
-        (λ e. by-if (λ (n : ℕ). n ≤ 4) _ _ _ (λ e. omega arith)
-        (λ e. by-if (λ (n : ℕ). n ≤ 4) _ _ _ (λ e. omega arith) (λ e. omega arith))))
+formats-le o = rw (count-by o) (by-if (λ (k : ℕ). k ≤ 4) _ _ _ (λ e. assembly-le _) (λ e. row-le _))
 
 -- a test of each kind of outcome
 pub given-passes : (t k r v : ℕ) → true ≡ testBy t (gives k r v)
