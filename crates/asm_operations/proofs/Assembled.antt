@@ -1,51 +1,72 @@
 -- A look-up in the list of assembly operations tells the assembly operation of three letters.
 -- Assumes nothing.
-use Prim.Native.Nat.{ℕ, suc, _-_}
-use native.Mathlib.Numerals.{unary-clauses}
+use Prim.Native.Nat.{ℕ, zero, suc, _<_}
+use native.Mathlib.Nat.{le-of-suc-le-suc, not-suc-le-zero}
 use native.Mathlib.Omega.{arith}
-use mathlib.Core.Path.{_≡_, refl, sym, ap, _∙_}
-use mathlib.Core.Bool.{Bool, true, false}
-use mathlib.Core.List.{List, [], _∷_}
-use lib.Dec.{eqb}
-use lib.ListN.{getD}
-use Rattle.base.specs.Test.{if}
-use Rattle.ops.specs.Lookup.{firstWith}
+use mathlib.Core.Path.{_≡_, refl, sym, _∙_}
+use mathlib.Core.Bool.{Bool}
+use mathlib.Core.List.{List, [], _∷_, map}
+use borrow.Author.Tests.{eq-eqb, ne-eqb}
+use lib.Dec.{ltb}
+use lib.ListN.{getD, length}
+use Rattle.base.specs.Test.{_and_, if, Ok}
+use Rattle.base.proofs.Bool.{and-l, and-r, ok-lt}
+use Rattle.ops.specs.Assembly.{assemblyCells}
+use Rattle.ops.specs.Distinct.{apart}
+use Rattle.ops.specs.Ops.{letterOf, lettersOf, packed}
+use Rattle.ops.specs.declared.lookup.Lookup.{Lookup}
 use Rattle.ops.specs.declared.lookup.Lookup.the-variants as found
-use Rattle.ops.proofs.First.{first-sound, row-known}
-use Rattle.ops.proofs.Letters.{byMnemonic}
-use Rattle.language.specs.Operation.{Assembly, DTC, assemblies, assembles, assemblyIn, unknown}
+use Rattle.ops.proofs.Apart.{byMnemonic}
+use Rattle.ops.proofs.Every.{every, every-at}
+use Rattle.ops.proofs.First.{absent-at, cells-at, cells-count}
+use Rattle.ops.proofs.Rows.{packed-same}
+use Rattle.op_lookup.specs.Answers.{AnswersIn, HasLetters}
+use Rattle.language.specs.Operation.{Assembly, DTC, assemblies, assembles, assemblyIn, assemblyRow, unknown}
 use Rattle.asm_types.specs.Views.{assemblyAt}
 
-found-in : (k : ℕ) (bs : List Assembly) (s j : ℕ) → firstWith byMnemonic k s bs ≡ found.Row j
-    → assembles (getD bs (j - s) DTC) ≡ assemblyIn k bs
+-- no two have one mnemonic, and the last two letters of each are bytes
+assemblies-apart : Ok (apart byMnemonic assemblies)
+unfolding Ok _and_
+assemblies-apart = tt
+
+abbrev inBytes : ℕ → Assembly → Bool
+inBytes i a = ltb (letterOf (assemblyRow a .mnemonic) 1) 256 and ltb (letterOf (assemblyRow a .mnemonic) 2) 256
+
+assemblies-bytes : Ok (every inBytes 0 assemblies)
+unfolding Ok _and_
+assemblies-bytes = tt
+
+-- the operation of a key that one of a list has, and of one that none has
+in-at : (k : ℕ) (bs : List Assembly) → Ok (apart byMnemonic bs) → (i : ℕ) → i < length bs → byMnemonic (getD bs i DTC) ≡ k
+    → assembles (getD bs i DTC) ≡ assemblyIn k bs
 unfolding if
-found-in k [] s j e = absurd (row-known (sym e))
-found-in k (b ∷ bs) s j e = go (found-in k bs (suc s) j) (eqb k (byMnemonic b)) refl
-  where
-    go : (firstWith byMnemonic k (suc s) bs ≡ found.Row j → assembles (getD bs (j - suc s) DTC) ≡ assemblyIn k bs)
-        → (q : Bool) → eqb k (byMnemonic b) ≡ q → assembles (getD (b ∷ bs) (j - s) DTC) ≡ assemblyIn k (b ∷ bs)
-    go ih true q =
-        let g : found.Row s ≡ found.Row j = rw q at e in
-        let g′ : s ≡ j = cc in
-        let z : j - s ≡ 0 = omega arith in
-        rw (z, q)
-    go ih false q =
-        let g : firstWith byMnemonic k (suc s) bs ≡ found.Row j = rw q at e in
-        let z : j - s ≡ suc (j - suc s) = omega (arith, first-sound byMnemonic DTC k bs (suc s) j g .from) in
-        rw (z, q) (ih g)
+in-at k [] t i h e = absurd (not-suc-le-zero h)
+in-at k (b ∷ bs) t zero h e = rw (eq-eqb k (byMnemonic b) (sym e))
+in-at k (b ∷ bs) t (suc i) h e =
+    rw (ne-eqb k (byMnemonic b) (λ q. absent-at byMnemonic DTC (byMnemonic b) bs (and-l _ _ t) i (le-of-suc-le-suc h) (e ∙ q)))
+    (in-at k bs (and-r _ _ t) i (le-of-suc-le-suc h) e)
 
-nowhere-in : (k : ℕ) (bs : List Assembly) (s : ℕ) → firstWith byMnemonic k s bs ≡ found.Unknown → unknown ≡ assemblyIn k bs
+in-none : (k : ℕ) (bs : List Assembly) → ((i : ℕ) → i < length bs → byMnemonic (getD bs i DTC) ≡ k → ⊥) → unknown ≡ assemblyIn k bs
 unfolding if
-nowhere-in k [] s e = refl
-nowhere-in k (b ∷ bs) s e = go (nowhere-in k bs (suc s)) (eqb k (byMnemonic b)) refl
-  where
-    go : (firstWith byMnemonic k (suc s) bs ≡ found.Unknown → unknown ≡ assemblyIn k bs)
-        → (q : Bool) → eqb k (byMnemonic b) ≡ q → unknown ≡ assemblyIn k (b ∷ bs)
-    go ih true q = absurd (row-known (rw q at e))
-    go ih false q = rw q (ih (rw q at e))
+in-none k [] h = refl
+in-none k (b ∷ bs) h =
+    rw (ne-eqb k (byMnemonic b) (λ q. h 0 (omega arith) (sym q))) (in-none k bs (λ i g e. h (suc i) (omega arith) e))
 
-pub assembly-found : (k i : ℕ) → firstWith byMnemonic k 0 assemblies ≡ found.Row i → assembles (assemblyAt i) ≡ assemblyIn k assemblies
-assembly-found k i e = simp unary-clauses at (found-in k assemblies 0 i e)
+module _ (t : List (List ℕ)) (e : t ≡ map assemblyCells assemblies) (a b c : ℕ) (r : Lookup) (x : AnswersIn t a b c r) where
+  pub assembly-inside : (i : ℕ) → r ≡ found.Row i → i < 13
+  assembly-inside i q = rw (← cells-count assemblyCells assemblies t e) (x .row i .0 q .0)
 
-pub assembly-nowhere : (k : ℕ) → firstWith byMnemonic k 0 assemblies ≡ found.Unknown → unknown ≡ assemblyIn k assemblies
-assembly-nowhere k e = nowhere-in k assemblies 0 e
+  pub assembly-found : (i : ℕ) → r ≡ found.Row i → assembles (assemblyAt i) ≡ assemblyIn (packed a b c) assemblies
+  assembly-found i q =
+      let l : i < length assemblies = assembly-inside i q in
+      let w : HasLetters (assemblyCells (assemblyAt i)) a b c = rw (← cells-at assemblyCells assemblies t e DTC i l) (x .row i .0 q .1) in
+      in-at (packed a b c) assemblies assemblies-apart i l (rw (w .first, w .second, w .third))
+
+  pub assembly-nowhere : b < 256 → c < 256 → r ≡ found.Unknown → unknown ≡ assemblyIn (packed a b c) assemblies
+  assembly-nowhere hb hc q =
+      in-none (packed a b c) assemblies
+      (λ i l k.
+      let y : Ok (inBytes i (assemblyAt i)) = every-at inBytes DTC assemblies assemblies-bytes i l in
+      let p = packed-same _ _ _ a b c (ok-lt _ _ (and-l _ _ y)) (ok-lt _ _ (and-r _ _ y)) hb hc k in
+      let w : HasLetters (assemblyCells (assemblyAt i)) a b c = record { first = p .0; second = p .1; third = p .2 } in
+      x .unknown .0 q i (rw (cells-count assemblyCells assemblies t e) l) (rw (cells-at assemblyCells assemblies t e DTC i l) w))

@@ -10,7 +10,8 @@ use lib.ListN.{length, getD, drop, length-drop}
 use lib.Seq.{getD-drop}
 use Rattle.base.specs.Test.{_and_, if, Ok}
 use Rattle.base.proofs.Bool.{and-l, and-r, ok-le, ok-lt}
-use Rattle.ops.specs.Lookup.{AnswersIn, HasLetters, noRow, rowAt, rowOfLetters}
+use Rattle.ops.specs.Lookup.{noRow, rowAt, rowOfLetters}
+use Rattle.op_lookup.specs.Answers.{AnswersIn, HasLetters}
 use Rattle.ops.specs.Ops.{Row, cellsOf, letterOf, lettersOf, packed, rows}
 use Rattle.ops.specs.declared.lookup.Lookup.{Lookup}
 use Rattle.ops.specs.declared.lookup.Lookup.the-variants as found

@@ -1,11 +1,14 @@
--- An operation as numbers: its row in the operation table, and the words of its formats as the code reads them.
+-- An operation as numbers: its row, and the words of its formats as the code reads them.
 -- Assumes nothing.
 use Prim.Native.Nat.{ℕ, _+_, _*_, _-_}
+use mathlib.Core.Bool.{Bool}
+use mathlib.Core.List.{List}
 use lib.Dec.{eqb, leb, ltb}
 use lib.ListN.{getD}
 use Rattle.base.specs.Test.{if}
+use Rattle.ops.specs.Assembly.{assemblyCells}
 use Rattle.ops.specs.Class.{PRC, classCode, marks}
-use Rattle.ops.specs.Format.{ADDR, EQOP, INT, INTEGER, NONE, PTYP, VAL, formatWord, wordOf}
+use Rattle.ops.specs.Format.{NONE, PTYP, formatWord, codeWord}
 use Rattle.ops.specs.Lookup.{noRow, rowAt}
 use Rattle.ops.specs.Ops.{Row, cellsOf}
 use Rattle.language.specs.Operation.{Operation, assembles, empty, malformed, operates, unknown}
@@ -18,36 +21,28 @@ rowOf unknown = noRow
 rowOf (assembles a) = noRow
 rowOf (operates i) = rowAt i
 
--- the word of the format of operand i: of an assembly operation's first, of any of its operands, of an entry's, of a row's
-unfoldable pub firstFormat : ℕ → ℕ
-firstFormat n =
-    if (eqb n 4) (formatWord PTYP)
-    (if (eqb n 5) (formatWord PTYP)
-    (if (eqb n 8) (formatWord EQOP)
-    (if (eqb n 9) (formatWord ADDR)
-    (if (eqb n 10) (formatWord INTEGER) (if (eqb n 11) (formatWord VAL) (formatWord NONE))))))
+-- the cells of an operation's row, of the operation table or of the list of assembly operations
+unfoldable pub listed : Operation → List ℕ
+listed empty = cellsOf noRow
+listed malformed = cellsOf noRow
+listed unknown = cellsOf noRow
+listed (assembles a) = assemblyCells a
+listed (operates i) = cellsOf (rowAt i)
 
-unfoldable pub assemblyFormat : ℕ → ℕ → ℕ
-assemblyFormat n i =
-    if (eqb i 0) (firstFormat n)
-    (if (eqb i 1) (if (eqb n 4) (formatWord INT) (if (eqb n 5) (formatWord INT) (formatWord NONE))) (formatWord NONE))
+-- by these cells: the word of the format of operand i, that of format i of the card, and how many formats the card has
+unfoldable pub operandFormat : List ℕ → ℕ → ℕ
+operandFormat cells i = if (leb 3 i) (formatWord NONE) (codeWord (getD cells (5 + i) 0))
 
-unfoldable pub operandFormat : Row → ℕ → ℕ
-operandFormat r i = if (leb 3 i) (formatWord NONE) (wordOf (getD (cellsOf r) (5 + i) 0))
+abbrev isTyped : List ℕ → Bool
+isTyped cells = eqb (getD cells 8 0) (classCode (marks PRC))
 
-unfoldable pub rowFormat : Row → ℕ → ℕ
-rowFormat r i =
-    if (eqb (classCode (r .class)) (classCode (marks PRC))) (if (eqb i 0) (formatWord PTYP) (operandFormat r (i - 1))) (operandFormat r i)
+unfoldable pub cardFormat : List ℕ → ℕ → ℕ
+cardFormat cells i = if (isTyped cells) (if (eqb i 0) (formatWord PTYP) (operandFormat cells (i - 1))) (operandFormat cells i)
 
--- how many formats there are: of the assembly operation of code n, and of a row
-unfoldable pub assemblyCount : ℕ → ℕ
-assemblyCount n = if (eqb (firstFormat n) (formatWord NONE)) 0 (if (leb n 5) 2 1)
-
-unfoldable pub rowCount : Row → ℕ
-rowCount r =
-    if (eqb (getD (cellsOf r) 5 0) 0) 0
-    (if (eqb (classCode (r .class)) (classCode (marks PRC))) 2
-    (if (eqb (getD (cellsOf r) 6 0) 0) 1 (if (eqb (getD (cellsOf r) 7 0) 0) 2 3)))
+unfoldable pub cardCount : List ℕ → ℕ
+cardCount cells =
+    if (eqb (getD cells 5 0) 0) 0
+    (if (isTyped cells) 2 (if (eqb (getD cells 6 0) 0) 1 (if (eqb (getD cells 7 0) 0) 2 3)))
 
 -- where the look-up of a row with the first letter a begins: three rows a letter of the alphabet
 unfoldable pub begin : ℕ → ℕ

@@ -9,13 +9,13 @@ ghost use Rattle.ops.specs.Ops.{rows, cellsOf};
 ghost use Rattle.asm_types.specs.Views.{operationView};
 ghost use Rattle.asm_operations.specs.Codes.{rowOf};
 use asm_types::Operation;
+use op_lookup::numbers;
 use ops::cells::NO_CLASS;
-use ops::lookup;
 use ops::table;
 use ops::table::Operations;
 
 // A number is this times the section, and the item.
-const SECTION: u32 = lookup::SECTION as u32;
+const SECTION: u32 = numbers::SECTION as u32;
 
 // The index of an operation's row, past the last where it has none.
 fn row_index(o: Operation) -> usize

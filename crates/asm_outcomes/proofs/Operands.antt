@@ -13,14 +13,13 @@ use lib.Seq.{drop-cons}
 use Rattle.base.specs.Test.{_and_}
 use Rattle.base.proofs.Bool.{by-if}
 use Rattle.ops.specs.Format.{Format, NONE, formatWord, noKind}
-use Rattle.ops.specs.Ops.{Row}
 use Rattle.language.specs.Operation.{Operation, formatsOf}
 use Rattle.language.specs.Form.{Form, formOf, formless, writtenForms}
 use Rattle.language.specs.Card.{Card}
 use Rattle.language.specs.Symbol.{Symbol}
 use Rattle.language.specs.Operand.{Outcome, awaits, gives, misfits, missing, operandAt, operandOf, operandsOf, outcomes, unnamed}
 use Rattle.asm_types.specs.Views.{cutForm}
-use Rattle.asm_operations.specs.Codes.{assemblyCount, rowCount}
+use Rattle.asm_operations.specs.Codes.{cardCount}
 use Rattle.asm_operations.proofs.FormatWords.{count-by}
 use Rattle.asm_values.specs.Read.{formatOf}
 use Rattle.asm_operands.specs.LineCard.{lineCard}
@@ -89,21 +88,16 @@ module _ (all : List Symbol) (c : Card) where
           ∙ sym (by-index (formatsOf (c .operation)) (writtenForms (c .operation) (c .line)) i h k)
 
 -- at most four formats
-assembly-le : (n : ℕ) → assemblyCount n ≤ 4
-unfolding assemblyCount
-assembly-le n =
-    by-if (λ (k : ℕ). k ≤ 4) _ _ _ (λ e. omega arith) (λ e. by-if (λ (k : ℕ). k ≤ 4) _ _ _ (λ e. omega arith) (λ e. omega arith))
-
-row-le : (r : Row) → rowCount r ≤ 4
-unfolding rowCount
-row-le r =
+count-le : (cells : List ℕ) → cardCount cells ≤ 4
+unfolding cardCount
+count-le cells =
     by-if (λ (k : ℕ). k ≤ 4) _ _ _ (λ e. omega arith)
     (λ e. by-if (λ (k : ℕ). k ≤ 4) _ _ _ (λ e. omega arith)
     (λ e. by-if (λ (k : ℕ). k ≤ 4) _ _ _ (λ e. omega arith)
     (λ e. by-if (λ (k : ℕ). k ≤ 4) _ _ _ (λ e. omega arith) (λ e. omega arith))))
 
 pub formats-le : (o : Operation) → length (formatsOf o) ≤ 4
-formats-le o = rw (count-by o) (by-if (λ (k : ℕ). k ≤ 4) _ _ _ (λ e. assembly-le _) (λ e. row-le _))
+formats-le o = rw (count-by o) (count-le _)
 
 -- a test of each kind of outcome
 pub given-passes : (t k r v : ℕ) → true ≡ testBy t (gives k r v)

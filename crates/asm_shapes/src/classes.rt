@@ -4,30 +4,28 @@ ghost use mathlib.Core.List.{map};
 ghost use Prim.Native.Nat.{_<_};
 ghost use lib.ListN.{length, getD};
 ghost use Rattle.ops.specs.Class.{classCode};
-ghost use Rattle.ops.specs.Lookup.{IndexOf};
 ghost use Rattle.ops.specs.Ops.{rows, cellsOf};
+ghost use Rattle.op_lookup.specs.Answers.{IndexOf};
 ghost use Rattle.rules.specs.Table.{classAt};
 ghost use Rattle.entries.specs.Classes.{ClassesOf};
 ghost use Rattle.table_layout.specs.Laid.{Laid};
+use entries::fields::row_at;
+use op_lookup::cells;
+use op_lookup::numbers::NumberIndex;
 use ops::class::NO_CLASS;
-use ops::lookup;
 use ops::lookup::Lookup;
-use ops::lookup::NumberIndex;
-use ops::lookup::find_number;
 use ops::table::Operations;
-use table_layout::ENTRY;
-use table_layout::HEADER;
 
 // The class of the entry at p.
 fn class_of(table: &[u32], list: &Operations, numbers: &NumberIndex, p: usize) -> u32
     requires { ⌜ Laid (now table) × (now list ≡ map cellsOf rows) × (p < getD (now table) 0 0) × IndexOf (now numbers) ⌝ }
     ensures { λ r. ⌜ r ≡ classCode (classAt (now (table .entry)) p) ⌝ }
 {
-    let found = find_number(numbers, table[HEADER + ENTRY * p]);
+    let found = row_at(table, numbers, p);
     let Lookup::Row(i) = found else {
         return NO_CLASS;
     };
-    lookup::class_of(&list[i])
+    cells::class_of(&list[i])
 }
 
 // The classes of the n entries, and of the place past the last, are written down.

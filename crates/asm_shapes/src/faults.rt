@@ -5,8 +5,8 @@ ghost use mathlib.Core.List.{map};
 ghost use Prim.Native.Nat.{_≤_, _<_};
 ghost use lib.ListN.{getD};
 ghost use Rattle.ops.specs.Class.{BSW, EXI, JSR};
-ghost use Rattle.ops.specs.Lookup.{IndexOf};
 ghost use Rattle.ops.specs.Ops.{rows, cellsOf};
+ghost use Rattle.op_lookup.specs.Answers.{IndexOf};
 ghost use Rattle.rules.specs.Check as Check;
 ghost use Rattle.rules.specs.Table.{classAt};
 ghost use Rattle.table_layout.specs.Laid.{Laid};
@@ -15,12 +15,11 @@ ghost use Rattle.language.specs.Fault.{listRules};
 ghost use Rattle.language.specs.Text.{parsed};
 ghost use Rattle.asm_shapes.specs.Shared.{shared};
 use entries::fields;
+use op_lookup::numbers::NumberIndex;
 use ops::class;
 use ops::class::NO_CLASS;
 use ops::format::NO_KIND;
 use ops::lookup::Lookup;
-use ops::lookup::NumberIndex;
-use ops::lookup::find_number;
 use ops::table::Operations;
 use shape_core::exits;
 use shape_core::exits::Exits;
@@ -44,7 +43,7 @@ fn fields_ok(table: &[u32], list: &Operations, numbers: &NumberIndex, p: usize) 
     requires { ⌜ Laid (now table) × (now list ≡ map cellsOf rows) × (p < getD (now table) 0 0) × IndexOf (now numbers) ⌝ }
     ensures { λ r. ⌜ r ≡ Check.fieldsOk (now (table .entry)) p rows ⌝ }
 {
-    let found = find_number(numbers, table[HEADER + ENTRY * p]);
+    let found = fields::row_at(table, numbers, p);
     let Lookup::Row(i) = found else {
         return false;
     };

@@ -1,7 +1,7 @@
 // The first line with a fault, and on it the smallest number [S Numbers the host sees].
 ghost use mathlib.Core.Path.{_≡_};
 ghost use mathlib.Core.List.{map};
-ghost use Rattle.ops.specs.Lookup.{IndexOf};
+ghost use Rattle.op_lookup.specs.Answers.{IndexOf};
 ghost use Rattle.ops.specs.Ops.{rows, cellsOf};
 ghost use Rattle.shape_core.specs.Known.{Known};
 ghost use Rattle.language.specs.Card.{cardsOf};
@@ -20,7 +20,7 @@ use asm_faults::fault_of;
 use asm_reader::line_end;
 use asm_types::Card;
 use asm_types::Reader;
-use ops::lookup::NumberIndex;
+use op_lookup::numbers::NumberIndex;
 use ops::table::Operations;
 
 // The fault that a verdict names: number 0 where there is none.

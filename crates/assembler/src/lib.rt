@@ -9,8 +9,8 @@ ghost use Rattle.assembler.specs.Answers.{Answers, answerView, lineOf, a
 use crate::finish::finish;
 use asm_collect::collect;
 use asm_draft::deck::fill;
+use op_lookup::numbers::number_index;
 use ops::constants::Machine;
-use ops::lookup::number_index;
 use table_layout::ENTRY;
 use table_layout::HEADER;
 

@@ -2,7 +2,7 @@
 ghost use mathlib.Core.Path.{_≡_};
 ghost use mathlib.Core.List.{map};
 ghost use Prim.Native.Nat.{_<_};
-ghost use Rattle.ops.specs.Lookup.{IndexOf};
+ghost use Rattle.op_lookup.specs.Answers.{IndexOf};
 ghost use Rattle.ops.specs.Ops.{rows, cellsOf};
 ghost use Rattle.shape_core.specs.Known.{Known};
 ghost use Rattle.language.specs.Fault.{isJudged, placeFault, shapeFault};
@@ -17,7 +17,7 @@ use asm_shapes::loose::count_known;
 use asm_shapes::loose::loose_fault;
 use asm_symbols::uses::declared_count;
 use asm_types::Card;
-use ops::lookup::NumberIndex;
+use op_lookup::numbers::NumberIndex;
 use ops::table::Operations;
 use table_layout::index;
 

@@ -14,7 +14,7 @@ use Rattle.base.specs.Test.{_and_, _or_, if, Ok}
 use Rattle.base.specs.Lists.{member}
 use Rattle.base.proofs.Bool.{and-l, and-r, if-true, lt-ok, ok-eq, ok-lt, test-true, true-ok}
 use Rattle.ops.specs.Class.{none, classCode}
-use Rattle.ops.specs.Format.{Format, formatWord, noKind, placeKind, wordOf}
+use Rattle.ops.specs.Format.{Format, formatWord, noKind, placeKind, codeWord}
 use Rattle.ops.specs.Lookup.{firstWith, byNumber, rowOfNumber, rowAt, noRow}
 use Rattle.ops.specs.Ops.{Row, rows, classIn, cellsOf}
 use Rattle.ops.specs.declared.lookup.Lookup.the-variants as found
@@ -152,11 +152,12 @@ op-is : (t : List ℕ) (p : ℕ) → field t p 0 ≡ getD t (8 + 8 * p) 0
 unfolding field
 op-is t p = rw (add-zero (8 + 8 * p)) refl
 
+-- a row that is found is in the table
+pub row-inside : (n : ℕ) {i : ℕ} → rowOfNumber n ≡ found.Row i → i < 89
+row-inside n {i} e = rw (← rows-count) (number-exactly n i .0 e .0)
+
 -- the rules of an entry are those of the words of its row
 module _ (t : List ℕ) (p i : ℕ) (e : rowOfNumber (getD t (8 + 8 * p) 0) ≡ found.Row i) where
-  pub row-inside : i < 89
-  row-inside = rw (← rows-count) (number-exactly _ i .0 e .0)
-
   row-says : Ok (rowSays i (rowAt i))
   row-says = every-at rowSays noRow rows all-say i (number-exactly _ i .0 e .0)
 
@@ -176,10 +177,10 @@ module _ (t : List ℕ) (p i : ℕ) (e : rowOfNumber (getD t (8 + 8 * p) 0) ≡ 
 
   -- the same by a row of the constant table
   module _ (cells : List ℕ) (q : cells ≡ cellsOf (rowAt i)) where
-    pub fields-cells : fieldsOk t p rows ≡ fieldsBy t p (wordOf (getD cells 5 0)) (wordOf (getD cells 6 0)) (wordOf (getD cells 7 0))
+    pub fields-cells : fieldsOk t p rows ≡ fieldsBy t p (codeWord (getD cells 5 0)) (codeWord (getD cells 6 0)) (codeWord (getD cells 7 0))
     fields-cells = let w = row-words i (number-exactly _ i .0 e .0) in rw (q, w .0, w .1, w .2) fields-is
 
-    pub entry-cells : entryOk t p ≡ entryBy t p (wordOf (getD cells 5 0)) (wordOf (getD cells 6 0)) (wordOf (getD cells 7 0))
+    pub entry-cells : entryOk t p ≡ entryBy t p (codeWord (getD cells 5 0)) (codeWord (getD cells 6 0)) (codeWord (getD cells 7 0))
     unfolding entryOk entryBy
     entry-cells = rw fields-cells refl
 

@@ -6,22 +6,25 @@ ghost use Prim.Native.Nat.{ℕ, _+_, _*_, _≤_, _<_, _%_};
 ghost use lib.Dec.{eqb, ltb, leb};
 ghost use lib.ListN.{length, getD};
 ghost use Rattle.base.specs.Test.{_and_, _or_};
-ghost use Rattle.ops.specs.Format.{wordOf};
+ghost use Rattle.ops.specs.Format.{codeWord};
+ghost use Rattle.ops.specs.Lookup.{rowOfNumber};
 ghost use Rattle.ops.specs.Machine.{cfpB, cfpM};
 ghost use Rattle.ops.specs.Ops.{rows, cellsOf};
+ghost use Rattle.op_lookup.specs.Answers.{IndexOf};
 ghost use Rattle.rules.specs.Check.{among, registerOk, valueOk, apart};
 ghost use Rattle.rules.specs.Table.{constants, workings};
 ghost use Rattle.table_layout.specs.Laid.{Limited, Laid};
 ghost use Rattle.entries.specs.Classes.{Judged};
 ghost use Rattle.entries.specs.Coded.{takesKind, lastOf, largestOf, formatOf, operandBy, thirdBy, fieldsBy, apartAt, entryBy};
-use ops::cells::word_of;
+use op_lookup::cells::class_of;
+use op_lookup::cells::code_word;
+use op_lookup::numbers::NumberIndex;
+use op_lookup::numbers::find_number;
+use op_lookup::numbers::number_index;
 use ops::class::NO_CLASS;
 use ops::constants::Machine;
 use ops::format::*;
 use ops::lookup::Lookup;
-use ops::lookup::class_of;
-use ops::lookup::find_number;
-use ops::lookup::number_index;
 use ops::table::CELLS;
 use ops::table::ONE;
 use ops::table::Operations;
@@ -228,40 +231,34 @@ pub fn apart_at(table: &[u32], p: usize) -> bool
 // The operands of the entry at place p keep the rules of a row of the constant table.
 pub fn row_ok(table: &[u32], p: usize, row: &[u8; CELLS]) -> bool
     requires { ⌜ Laid (now table) × (p < getD (now table) 0 0) ⌝ }
-    ensures { λ r. ⌜ r ≡ fieldsBy (now (table .entry)) p (wordOf (getD (now (row .entry)) 5 0)) (wordOf (getD (now (row .entry)) 6 0)) (wordOf (getD (now (row .entry)) 7 0)) ⌝ }
+    ensures { λ r. ⌜ r ≡ fieldsBy (now (table .entry)) p (codeWord (getD (now (row .entry)) 5 0)) (codeWord (getD (now (row .entry)) 6 0)) (codeWord (getD (now (row .entry)) 7 0)) ⌝ }
 {
     operands_ok(
         table,
         p,
-        word_of(row[ONE]),
-        word_of(row[TWO]),
-        word_of(row[THREE]),
+        code_word(row[ONE]),
+        code_word(row[TWO]),
+        code_word(row[THREE]),
     )
-}
-
-// The fields of the entry at place p keep the rules of the formats of its three operands.
-fn entry_ok(table: &[u32], p: usize, one: u32, two: u32, three: u32) -> bool
-    requires { ⌜ Laid (now table) × (p < getD (now table) 0 0) ⌝ }
-    ensures { λ r. ⌜ r ≡ entryBy (now (table .entry)) p one two three ⌝ }
-{
-    if !operands_ok(table, p, one, two, three) {
-        return false;
-    }
-    apart_at(table, p)
 }
 
 // The fields of the entry at place p keep the rules of a row, and its registers are apart.
 fn entry_by(table: &[u32], p: usize, row: &[u8; CELLS]) -> bool
     requires { ⌜ Laid (now table) × (p < getD (now table) 0 0) ⌝ }
-    ensures { λ r. ⌜ r ≡ entryBy (now (table .entry)) p (wordOf (getD (now (row .entry)) 5 0)) (wordOf (getD (now (row .entry)) 6 0)) (wordOf (getD (now (row .entry)) 7 0)) ⌝ }
+    ensures { λ r. ⌜ r ≡ entryBy (now (table .entry)) p (codeWord (getD (now (row .entry)) 5 0)) (codeWord (getD (now (row .entry)) 6 0)) (codeWord (getD (now (row .entry)) 7 0)) ⌝ }
 {
-    entry_ok(
-        table,
-        p,
-        word_of(row[ONE]),
-        word_of(row[TWO]),
-        word_of(row[THREE]),
-    )
+    if !row_ok(table, p, row) {
+        return false;
+    }
+    apart_at(table, p)
+}
+
+// The row of the operation at place p.
+pub fn row_at(table: &[u32], numbers: &NumberIndex, p: usize) -> Lookup
+    requires { ⌜ Laid (now table) × (p < getD (now table) 0 0) × IndexOf (now numbers) ⌝ }
+    ensures { λ r. ⌜ r ≡ rowOfNumber (getD (now (table .entry)) (8 + 8 * p) 0) ⌝ }
+{
+    find_number(numbers, table[HEADER + ENTRY * p])
 }
 
 // The fields of every entry keep the rules of its row in a lent copy of the constant table; the classes of all places are written down.
@@ -273,7 +270,7 @@ pub fn fields_ok(table: &[u32], list: &Operations, classes: &mut [u32]) -> bool
     let numbers = number_index(list);
     let mut p: usize = 0;
     while p < n {
-        let found = find_number(&numbers, table[HEADER + ENTRY * p]);
+        let found = row_at(table, &numbers, p);
         let Lookup::Row(i) = found else {
             return false;
         };

@@ -4,11 +4,11 @@
 // rules] has it. PRC's card has a procedure type before its operand, ERR's and ERB's a text after it. The last cell is the control class.
 ghost use mathlib.Core.Path.{_≡_};
 ghost use mathlib.Core.List.{map};
-ghost use Rattle.ops.specs.Lookup.{Answers};
 ghost use Rattle.ops.specs.Ops.{rows, cellsOf};
+ghost use Rattle.op_lookup.specs.Answers.{Answers};
+use op_lookup::find_letters_in;
 use ops::cells::*;
 use ops::lookup::Lookup;
-use ops::lookup::find_letters_in;
 use ops::table::Operations;
 
 pub mod assembly;

@@ -1,8 +1,5 @@
 // What the cells of the constant table hold, a byte each: formats by their codes, classes by their numbers.
-ghost use mathlib.Core.Path.{_≡_};
-ghost use Rattle.ops.specs.Format.{wordOf};
 use crate::class;
-use crate::format;
 
 // The codes of the formats.
 pub const NONE: u8 = 0;
@@ -97,38 +94,3 @@ pub const PRC: u8 = class::PRC as u8;
 pub const ENP: u8 = class::ENP as u8;
 
 pub const NO_CLASS: u8 = class::NO_CLASS as u8;
-
-// The word of a format's code.
-pub fn word_of(code: u8) -> u32
-    ensures { λ r. ⌜ r ≡ wordOf code ⌝ }
-{
-    match code {
-        NONE => format::NONE,
-        OPV => format::OPV,
-        OPN => format::OPN,
-        OPW => format::OPW,
-        OPS => format::OPS,
-        OPC => format::OPC,
-        REG => format::REG,
-        X => format::X,
-        W => format::W,
-        VAL => format::VAL,
-        INT => format::INT,
-        SHIFT => format::SHIFT,
-        PLBL => format::PLBL,
-        PNAM => format::PNAM,
-        GLBL => format::GLBL,
-        PTYP => format::PTYP,
-        EQOP => format::EQOP,
-        ADDR => format::ADDR,
-        INTEGER => format::INTEGER,
-        OPT_OPV => format::OPT_OPV,
-        OPT_VAL => format::OPT_VAL,
-        OPT_INT => format::OPT_INT,
-        OPT_PLBL => format::OPT_PLBL,
-        STILL_OPV => format::STILL_OPV,
-        STILL_OPN => format::STILL_OPN,
-        STILL_OPW => format::STILL_OPW,
-        _ => format::NONE,
-    }
-}

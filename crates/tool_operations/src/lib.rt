@@ -2,7 +2,6 @@
 ghost use Prim.Native.Nat.{_<_};
 use console::lines::line_of;
 use console::page::put;
-use console::page::put_number;
 use console::page::show;
 use op_table::find_letters;
 use op_table::rows;
@@ -21,42 +20,57 @@ use ops::table::TWO;
 // What stands for the text of ERR and ERB, past the codes of the formats.
 const TEXT: u8 = 26;
 
-// The name of a format by its code: line k of the text. One that may be left out, takes no (X)+ or counts to 32 has the name of the other.
-fn put_name(page: &mut [u8], at: usize, code: u8) -> usize {
-    put(
-        page,
-        at,
-        line_of(
-            b"
-OPV
-OPN
-OPW
-OPS
-OPC
-REG
-X
-W
-VAL
-INT
-VAL
-PLBL
-PNAM
-GLBL
-PTYP
-EQOP
-ADDR
-INTEGER
-OPV
-VAL
-INT
-PLBL
-OPV
-OPN
-OPW
-TEXT",
-            code as usize,
-        ),
-    )
+// How many operands a card may write: those of its entry, one before them, and a text.
+const OPERANDS: usize = 5;
+
+// The bytes of a row's number and mnemonic.
+const HEAD: usize = 9;
+
+// A text without its first byte.
+fn rest_of(text: &[u8]) -> &[u8] {
+    if text.len() == 0 {
+        return text;
+    }
+    &text[1..]
+}
+
+// An operand, behind a comma if it is not the first: line k of the text has the name of the format of code k, and nothing for NONE. A format that
+// may be left out, takes no (X)+ or counts to 32 has the name of the other.
+fn put_operand(page: &mut [u8], at: usize, first: bool, code: u8) -> usize {
+    let name = line_of(
+        b"
+,OPV
+,OPN
+,OPW
+,OPS
+,OPC
+,REG
+,X
+,W
+,VAL
+,INT
+,VAL
+,PLBL
+,PNAM
+,GLBL
+,PTYP
+,EQOP
+,ADDR
+,INTEGER
+,OPV
+,VAL
+,INT
+,PLBL
+,OPV
+,OPN
+,OPW
+,TEXT",
+        code as usize,
+    );
+    if first {
+        return put(page, at, rest_of(name));
+    }
+    put(page, at, name)
 }
 
 // What a card writes before the operands of its entry, and what after them.
@@ -72,6 +86,29 @@ fn after_of(class: u8) -> u8 {
     }
 }
 
+// What a card of the row writes behind its mnemonic, as codes.
+fn codes_of(row: &[u8; CELLS]) -> [u8; OPERANDS] {
+    [
+        before_of(row[CLASS]),
+        row[ONE],
+        row[TWO],
+        row[THREE],
+        after_of(row[CLASS]),
+    ]
+}
+
+// The operands, with commas between them.
+fn put_operands(page: &mut [u8], at: usize, row: &[u8; CELLS]) -> usize {
+    let codes = codes_of(row);
+    let mut behind = at;
+    let mut i: usize = 0;
+    while i < OPERANDS {
+        behind = put_operand(page, behind, behind == at, codes[i]);
+        i += 1;
+    }
+    behind
+}
+
 // An operand that may be left out.
 fn is_optional(code: u8) -> bool {
     match code {
@@ -83,72 +120,74 @@ fn is_optional(code: u8) -> bool {
     }
 }
 
-// What stands between the mnemonic and its first operand: the star, if there is one.
-fn put_star(page: &mut [u8], at: usize, row: &[u8; CELLS]) -> usize {
+// The star, if there is one.
+fn star_of(row: &[u8; CELLS]) -> u8 {
     if is_optional(row[ONE]) {
-        return put(page, at, b"* ");
+        return b'*';
     }
     if is_optional(row[TWO]) {
-        return put(page, at, b"* ");
+        return b'*';
     }
-    if is_optional(row[THREE]) {
-        return put(page, at, b"* ");
-    }
-    put(page, at, b"  ")
+    if is_optional(row[THREE]) { b'*' } else { b' ' }
 }
 
-// An operand, behind a comma if it is not the first of its row; none where the row has none.
-fn put_operand(page: &mut [u8], at: usize, first: bool, code: u8) -> usize {
-    if code == NONE {
-        return at;
-    }
-    if first {
-        return put_name(page, at, code);
-    }
-    let behind = put(page, at, b",");
-    put_name(page, behind, code)
-}
-
-// What a card of the row writes behind its mnemonic.
-fn put_operands(page: &mut [u8], at: usize, row: &[u8; CELLS]) -> usize {
+// What stands behind the mnemonic; nothing where there is no operand.
+fn put_tail(page: &mut [u8], at: usize, row: &[u8; CELLS]) -> usize {
     if row[ONE] == NONE {
         return at;
     }
-    let before = before_of(row[CLASS]);
-    let from = put_star(page, at, row);
-    let typed = put_operand(page, from, true, before);
-    let one = put_operand(page, typed, before == NONE, row[ONE]);
-    let two = put_operand(page, one, false, row[TWO]);
-    let three = put_operand(page, two, false, row[THREE]);
-    put_operand(page, three, false, after_of(row[CLASS]))
+    let star = [star_of(row), b' '];
+    let from = put(page, at, &star);
+    put_operands(page, from, row)
 }
 
-// The section, and before it a blank if it has one digit.
-fn put_section(page: &mut [u8], at: usize, section: u8) -> usize {
+// The last digit of a number.
+fn digit(n: u8) -> u8 {
+    b'0' + n % 10
+}
+
+// The section's tens, a blank where it has none.
+fn tens(section: u8) -> u8 {
     if section < 10 {
-        let behind = put(page, at, b" ");
-        return put_number(page, behind, section as u64);
+        b' '
+    } else {
+        digit(section / 10)
     }
-    put_number(page, at, section as u64)
 }
 
-// The item, and behind it a blank, or two if it has one digit.
-fn put_item(page: &mut [u8], at: usize, item: u8) -> usize {
-    let behind = put_number(page, at, item as u64);
+// The item's first digit, and its second, a blank where it has none.
+fn first_digit(item: u8) -> u8 {
     if item < 10 {
-        return put(page, behind, b"  ");
+        digit(item)
+    } else {
+        digit(item / 10)
     }
-    put(page, behind, b" ")
+}
+
+fn second_digit(item: u8) -> u8 {
+    if item < 10 { b' ' } else { digit(item) }
+}
+
+// The number and the mnemonic of a row.
+fn head_of(row: &[u8; CELLS]) -> [u8; HEAD] {
+    [
+        tens(row[SECTION]),
+        digit(row[SECTION]),
+        b'.',
+        first_digit(row[ITEM]),
+        second_digit(row[ITEM]),
+        b' ',
+        row[LETTERS],
+        row[LETTERS + 1],
+        row[LETTERS + 2],
+    ]
 }
 
 // A row, and the end of its line.
 fn put_row(page: &mut [u8], at: usize, row: &[u8; CELLS]) -> usize {
-    let point = put_section(page, at, row[SECTION]);
-    let item = put(page, point, b".");
-    let from = put_item(page, item, row[ITEM]);
-    let letters = [row[LETTERS], row[LETTERS + 1], row[LETTERS + 2]];
-    let named = put(page, from, &letters);
-    let behind = put_operands(page, named, row);
+    let head = head_of(row);
+    let named = put(page, at, &head);
+    let behind = put_tail(page, named, row);
     put(page, behind, b"\n")
 }
 

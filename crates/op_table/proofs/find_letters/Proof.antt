@@ -1,7 +1,7 @@
 -- What the look-up answers in a list that is the one table.
 -- Assumes nothing.
 use borrow.Author.Needs.{needs}
-use Rattle.ops.proofs.Letters.{answers-of}
+use Rattle.op_lookup.proofs.Letters.{answers-of}
 use Rattle.op_table.proofs.find_letters.Statement.{statement}
 use Rattle.op_table.proofs.find_letters.Tie as tie
 

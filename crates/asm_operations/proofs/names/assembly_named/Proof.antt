@@ -2,14 +2,8 @@
 -- Assumes nothing.
 use Prim.Native.Nat.{_<_}
 use native.Mathlib.Omega.{arith}
-use mathlib.Core.Path.{sym, _∙_}
 use borrow.Author.Needs.{needs}
-use lib.ListN.{length}
-use Rattle.ops.specs.Assembly.{assemblies, assemblyCells}
-use Rattle.ops.specs.Ops.{packed}
-use Rattle.ops.proofs.First.{cells-count}
-use Rattle.ops.proofs.Letters.{assembly-answers}
-use Rattle.asm_operations.proofs.Assembled.{assembly-found, assembly-nowhere}
+use Rattle.asm_operations.proofs.Assembled.{assembly-found, assembly-inside, assembly-nowhere}
 use Rattle.asm_operations.proofs.names.assembly_named.Statement.{statement}
 use Rattle.asm_operations.proofs.names.assembly_named.Tie as tie
 
@@ -31,25 +25,20 @@ enum-told c = search needs
 returns : tie.Need-returns
 returns c =
     let f = c .before .before in
-    let a = f .before .before .before .args in
-    assembly-nowhere (packed (a .a) (a .b) (a .c))
-    (sym (assembly-answers _ (f .before .before .assemblies .ensures) (a .a) (a .b) (a .c) (omega arith) (omega arith) _ (f .find-letters-in .ensures))
-    ∙ c .enum-told .given .1)
+    assembly-nowhere _ (f .before .before .assemblies .ensures) _ _ _ _ (f .find-letters-in .ensures) (omega arith) (omega arith)
+    (c .enum-told .given .1)
 
 cast-t10 : tie.Need-cast-t10
 cast-t10 c =
     let f = c .before .before .before in
-    let l = cells-count assemblyCells assemblies _ (f .before .before .assemblies .ensures) in
-    let i : c .before .found .given .0 .0 < 13 = rw (← l) (f .find-letters-in .ensures .row (c .before .found .given .0 .0) .0 (c .before .found .given .1) .0) in
+    let i : c .before .found .given .0 .0 < 13 =
+    assembly-inside _ (f .before .before .assemblies .ensures) _ _ _ _ (f .find-letters-in .ensures) _ (c .before .found .given .1) in
     search needs
 
 returns-2 : tie.Need-returns-2
 returns-2 c =
     let f = c .before .before .before in
-    let a = f .before .before .before .args in
-    assembly-found (packed (a .a) (a .b) (a .c)) _
-    (sym (assembly-answers _ (f .before .before .assemblies .ensures) (a .a) (a .b) (a .c) (omega arith) (omega arith) _ (f .find-letters-in .ensures))
-    ∙ c .before .found .given .1)
+    assembly-found _ (f .before .before .assemblies .ensures) _ _ _ _ (f .find-letters-in .ensures) _ (c .before .found .given .1)
 
 pub assembly-named-spec : {M : Type 1} → statement M
 assembly-named-spec =

@@ -6,7 +6,7 @@ use mathlib.Core.Path.{_≡_, subst, sym}
 use mathlib.Core.List.{List}
 use lib.ListN.{length, drop, take, length-drop}
 use lib.Seq.{take-all}
-use Rattle.ops.specs.Lookup.{AnswersIn}
+use Rattle.op_lookup.specs.Answers.{AnswersIn}
 use borrow.Author.Needs.{needs}
 use Rattle.asm_operations.proofs.names.find_from.Statement.{statement}
 use Rattle.asm_operations.proofs.names.find_from.Tie as tie

@@ -1,45 +1,26 @@
--- `entries::fields::entry_by` meets its contract: the words of the row's codes.
+-- `entries::fields::entry_by` meets its contract: each return rewrites with the tests that led there.
 -- Assumes nothing.
-use mathlib.Core.Path.{_∙_}
+use Rattle.entries.specs.Coded.{entryBy}
+use Rattle.base.specs.Test.{_and_}
+use borrow.Author.Tests.{not-true, not-false}
+use mathlib.Core.Path.{refl}
 use borrow.Author.Needs.{needs}
 use Rattle.entries.proofs.fields.entry_by.Statement.{statement}
 use Rattle.entries.proofs.fields.entry_by.Tie as tie
 
-element-copy-out-word-of : tie.Need-element-copy-out-word-of
-element-copy-out-word-of c = search needs
-
-word-of-requires : tie.Need-word-of-requires
-word-of-requires c κs = search needs
-
-element-copy-out-word-of-2 : tie.Need-element-copy-out-word-of-2
-element-copy-out-word-of-2 c = search needs
-
-word-of-requires-2 : tie.Need-word-of-requires-2
-word-of-requires-2 c κs = search needs
-
-element-copy-out-word-of-3 : tie.Need-element-copy-out-word-of-3
-element-copy-out-word-of-3 c = search needs
-
-word-of-requires-3 : tie.Need-word-of-requires-3
-word-of-requires-3 c κs = search needs
-
-entry-ok-requires : tie.Need-entry-ok-requires
-entry-ok-requires c κs = search needs
+row-ok-requires : tie.Need-row-ok-requires
+row-ok-requires c κs = search needs
 
 returns : tie.Need-returns
-returns c =
-    c .entry-ok .ensures
-    ∙ rw (c .before .before .before .before .before .word-of .ensures, c .before .before .before .word-of2 .ensures, c .before .word-of3 .ensures)
+unfolding entryBy _and_
+returns c = rw (← c .before .row-ok .ensures, not-true (c .before .row-ok .result) (c .if1 .taken)) refl
+
+apart-at-requires : tie.Need-apart-at-requires
+apart-at-requires c κs = search needs
+
+returns-2 : tie.Need-returns-2
+unfolding entryBy _and_
+returns-2 c = rw (← c .before .before .row-ok .ensures, not-false (c .before .before .row-ok .result) (c .before .if1 .left)) (c .apart-at .ensures)
 
 pub entry-by-spec : {M : Type 1} → statement M
-entry-by-spec =
-    tie.close
-    (tie.spec
-    element-copy-out-word-of
-    word-of-requires
-    element-copy-out-word-of-2
-    word-of-requires-2
-    element-copy-out-word-of-3
-    word-of-requires-3
-    entry-ok-requires
-    returns)
+entry-by-spec = tie.close (tie.spec row-ok-requires returns apart-at-requires returns-2)

@@ -40,20 +40,8 @@ number-index-requires c κs = search needs
 loop-holds : tie.Need-loop-holds Inv-loop μ-loop
 loop-holds c = (omega arith, refl, below-zero _, λ q h. absurd (omega arith))
 
-mul-find-number : tie.Need-mul-find-number Inv-loop μ-loop
-mul-find-number c = search needs
-
-add-find-number : tie.Need-add-find-number Inv-loop μ-loop
-add-find-number c = search needs
-
-mul-find-number-2 : tie.Need-mul-find-number-2 Inv-loop μ-loop
-mul-find-number-2 c = search needs
-
-shared-slice-read-find-number : tie.Need-shared-slice-read-find-number Inv-loop μ-loop
-shared-slice-read-find-number c = search needs
-
-find-number-requires : tie.Need-find-number-requires Inv-loop μ-loop
-find-number-requires c κs = search needs
+row-at-requires : tie.Need-row-at-requires Inv-loop μ-loop
+row-at-requires c κs = search needs
 
 enum-known-found : tie.Need-enum-known-found Inv-loop μ-loop
 enum-known-found c = search needs
@@ -66,73 +54,45 @@ same-length c = search needs
 
 returns : tie.Need-returns Inv-loop μ-loop
 returns c =
-    let l = c .before .before .before .before .before .before in
+    let l = c .before .before .before .before .before in
     let t = l .before .before .before .before .before .before .args .table .now in
     let p = l .loop .p in
     record {
-      verdict = sym (below-fails (entryOk t) (getD t 0 0) p (omega arith) (entry-unknown t p (sym (c .before .before .find-number .ensures) ∙ c .enum-told .given .1)));
+      verdict = sym (below-fails (entryOk t) (getD t 0 0) p (omega arith) (entry-unknown t p (sym (c .before .before .row-at .ensures) ∙ c .enum-told .given .1)));
       classes = λ h. absurd (failed (true-ok _ h));
     }
 
 mul-entry-by : tie.Need-mul-entry-by Inv-loop μ-loop
-mul-entry-by c =
-    let l = c .before .before .before .before .before .before .before in
-    let a = l .before .before .before .before .before .before in
-    let t = a .args .table .now in
-    let p = l .loop .p in
-    let i = c .before .found .given .0 .0 in
-    let e = sym (c .before .before .before .find-number .ensures) ∙ c .before .found .given .1 in
-    omega (arith, row-inside t p i e)
+mul-entry-by c = omega (arith, row-inside _ (sym (c .before .before .before .row-at .ensures) ∙ c .before .found .given .1))
 
 index-1-entry-by : tie.Need-index-1-entry-by Inv-loop μ-loop
-index-1-entry-by c =
-    let l = c .before .before .before .before .before .before .before in
-    let a = l .before .before .before .before .before .before in
-    let t = a .args .table .now in
-    let p = l .loop .p in
-    let i = c .before .found .given .0 .0 in
-    let e = sym (c .before .before .before .find-number .ensures) ∙ c .before .found .given .1 in
-    omega (arith, row-inside t p i e)
+index-1-entry-by c = omega (arith, row-inside _ (sym (c .before .before .before .row-at .ensures) ∙ c .before .found .given .1))
 
 entry-by-requires : tie.Need-entry-by-requires Inv-loop μ-loop
-entry-by-requires c κs = (c .before .before .before .before .before .before .before .before .before .before .before .before .before .before .pre .0, omega arith)
+entry-by-requires c κs = (c .before .before .before .before .before .before .before .before .before .before .before .before .before .pre .0, omega arith)
 
 same-length-2 : tie.Need-same-length-2 Inv-loop μ-loop
 same-length-2 c = search needs
 
 returns-2 : tie.Need-returns-2 Inv-loop μ-loop
 returns-2 c =
-    let l = c .before .before .before .before .before .before .before .before .before .before in
+    let l = c .before .before .before .before .before .before .before .before .before in
     let a = l .before .before .before .before .before .before in
     let t = a .args .table .now in
     let p = l .loop .p in
     let i = c .before .before .before .before .found .given .0 .0 in
-    let e = sym (c .before .before .before .before .before .before .find-number .ensures) ∙ c .before .before .before .before .found .given .1 in
-    let r = table-row (a .args .list .now) (a .pre .1) i (row-inside t p i e) in
+    let e = sym (c .before .before .before .before .before .before .row-at .ensures) ∙ c .before .before .before .before .found .given .1 in
+    let r = table-row (a .args .list .now) (a .pre .1) i (row-inside _ e) in
     record {
       verdict = sym (below-fails (entryOk t) (getD t 0 0) p (omega arith) (entry-cells t p i e (getD (a .args .list .now) i []) r ∙ sym (c .before .entry-by .ensures) ∙ not-true (c .before .entry-by .result) (c .if1 .taken)));
       classes = λ h. absurd (failed (true-ok _ h));
     }
 
 mul-class-of : tie.Need-mul-class-of Inv-loop μ-loop
-mul-class-of c =
-    let l = c .before .before .before .before .before .before .before .before .before .before in
-    let a = l .before .before .before .before .before .before in
-    let t = a .args .table .now in
-    let p = l .loop .p in
-    let i = c .before .before .before .before .found .given .0 .0 in
-    let e = sym (c .before .before .before .before .before .before .find-number .ensures) ∙ c .before .before .before .before .found .given .1 in
-    omega (arith, row-inside t p i e)
+mul-class-of c = omega (arith, row-inside _ (sym (c .before .before .before .before .before .before .row-at .ensures) ∙ c .before .before .before .before .found .given .1))
 
 index-1-class-of : tie.Need-index-1-class-of Inv-loop μ-loop
-index-1-class-of c =
-    let l = c .before .before .before .before .before .before .before .before .before .before in
-    let a = l .before .before .before .before .before .before in
-    let t = a .args .table .now in
-    let p = l .loop .p in
-    let i = c .before .before .before .before .found .given .0 .0 in
-    let e = sym (c .before .before .before .before .before .before .find-number .ensures) ∙ c .before .before .before .before .found .given .1 in
-    omega (arith, row-inside t p i e)
+index-1-class-of c = omega (arith, row-inside _ (sym (c .before .before .before .before .before .before .row-at .ensures) ∙ c .before .before .before .before .found .given .1))
 
 class-of-requires : tie.Need-class-of-requires Inv-loop μ-loop
 class-of-requires c κs = search needs
@@ -151,13 +111,13 @@ loop-less c = search needs
 
 loop-again : tie.Need-loop-again Inv-loop μ-loop
 loop-again c =
-    let l = c .before .before .before .before .before .before .before .before .before .before .before .before in
+    let l = c .before .before .before .before .before .before .before .before .before .before .before in
     let a = l .before .before .before .before .before .before in
     let t = a .args .table .now in
     let p = l .loop .p in
     let i = c .before .before .before .before .before .before .found .given .0 .0 in
-    let e = sym (c .before .before .before .before .before .before .before .before .find-number .ensures) ∙ c .before .before .before .before .before .before .found .given .1 in
-    let r = table-row (a .args .list .now) (a .pre .1) i (row-inside t p i e) in
+    let e = sym (c .before .before .before .before .before .before .before .before .row-at .ensures) ∙ c .before .before .before .before .before .before .found .given .1 in
+    let r = table-row (a .args .list .now) (a .pre .1) i (row-inside _ e) in
     let size : p < getD t 0 0 = omega arith in (
       omega arith,
       length-set (l .loop .classes) p _ ∙ l .loop .inv .1,
@@ -197,11 +157,7 @@ fields-ok-spec =
     index-requires
     number-index-requires
     loop-holds
-    mul-find-number
-    add-find-number
-    mul-find-number-2
-    shared-slice-read-find-number
-    find-number-requires
+    row-at-requires
     enum-known-found
     enum-told
     same-length

@@ -5,23 +5,23 @@ use borrow.Author.Needs.{needs}
 use Rattle.entries.proofs.fields.row_ok.Statement.{statement}
 use Rattle.entries.proofs.fields.row_ok.Tie as tie
 
-element-copy-out-word-of : tie.Need-element-copy-out-word-of
-element-copy-out-word-of c = search needs
+element-copy-out-code-word : tie.Need-element-copy-out-code-word
+element-copy-out-code-word c = search needs
 
-word-of-requires : tie.Need-word-of-requires
-word-of-requires c κs = search needs
+code-word-requires : tie.Need-code-word-requires
+code-word-requires c κs = search needs
 
-element-copy-out-word-of-2 : tie.Need-element-copy-out-word-of-2
-element-copy-out-word-of-2 c = search needs
+element-copy-out-code-word-2 : tie.Need-element-copy-out-code-word-2
+element-copy-out-code-word-2 c = search needs
 
-word-of-requires-2 : tie.Need-word-of-requires-2
-word-of-requires-2 c κs = search needs
+code-word-requires-2 : tie.Need-code-word-requires-2
+code-word-requires-2 c κs = search needs
 
-element-copy-out-word-of-3 : tie.Need-element-copy-out-word-of-3
-element-copy-out-word-of-3 c = search needs
+element-copy-out-code-word-3 : tie.Need-element-copy-out-code-word-3
+element-copy-out-code-word-3 c = search needs
 
-word-of-requires-3 : tie.Need-word-of-requires-3
-word-of-requires-3 c κs = search needs
+code-word-requires-3 : tie.Need-code-word-requires-3
+code-word-requires-3 c κs = search needs
 
 operands-ok-requires : tie.Need-operands-ok-requires
 operands-ok-requires c κs = search needs
@@ -29,17 +29,17 @@ operands-ok-requires c κs = search needs
 returns : tie.Need-returns
 returns c =
     c .operands-ok .ensures
-    ∙ rw (c .before .before .before .before .before .word-of .ensures, c .before .before .before .word-of2 .ensures, c .before .word-of3 .ensures)
+    ∙ rw (c .before .before .before .before .before .code-word .ensures, c .before .before .before .code-word2 .ensures, c .before .code-word3 .ensures)
 
 pub row-ok-spec : {M : Type 1} → statement M
 row-ok-spec =
     tie.close
     (tie.spec
-    element-copy-out-word-of
-    word-of-requires
-    element-copy-out-word-of-2
-    word-of-requires-2
-    element-copy-out-word-of-3
-    word-of-requires-3
+    element-copy-out-code-word
+    code-word-requires
+    element-copy-out-code-word-2
+    code-word-requires-2
+    element-copy-out-code-word-3
+    code-word-requires-3
     operands-ok-requires
     returns)
