@@ -69,7 +69,7 @@ enum {
 };
 
 /*
- * Bytes of stack that are enough for a call of torzimlak_assemble, and of each other function. The code itself takes at most 1,079,112
+ * Bytes of stack that are enough for a call of torzimlak_assemble, and of each other function. The code itself takes at most 1,079,192
  * bytes, torzimlak_run 20,872, torzimlak_resume 19,672, each other function under 18,800; the rest is for memcpy and memset, of which a
  * loader that binds them at their first call takes some thousands.
  */

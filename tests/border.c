@@ -208,7 +208,7 @@ static const struct {
     int leaves_state;
     size_t most;
 } calls[] = {
-    {"assemble", call_assemble, 0, 0, 1079112}, {"check_table", call_check_table, 0, 0, OTHERS}, {"warm_start", call_warm_start, 0, 1, OTHERS}, {"start", call_start, 0, 1, OTHERS},
+    {"assemble", call_assemble, 0, 0, 1079192}, {"check_table", call_check_table, 0, 0, OTHERS}, {"warm_start", call_warm_start, 0, 1, OTHERS}, {"start", call_start, 0, 1, OTHERS},
     {"check_state", call_check_state, 0, 0, OTHERS}, {"run", call_run, WAITING, 1, 20872}, {"write", call_write, 0, 0, OTHERS},
     {"restore", call_restore, 0, 1, OTHERS}, {"resume", call_resume, 0, 1, 19672},
 };

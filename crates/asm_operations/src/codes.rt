@@ -18,7 +18,7 @@ use ops::table::Operations;
 const SECTION: u32 = numbers::SECTION as u32;
 
 // The index of an operation's row, past the last where it has none.
-fn row_index(o: Operation) -> usize
+pub fn row_index(o: Operation) -> usize
     ensures { λ r. ⌜ rowAt r ≡ rowOf (operationView o) ⌝ }
 {
     match o {

@@ -1,16 +1,14 @@
 // The formats of the operands that a card writes, as words, and whether a text follows them [M section 7].
 ghost use mathlib.Core.Path.{_≡_};
 ghost use mathlib.Core.List.{map};
-ghost use Prim.Native.Nat.{_+_, _<_};
 ghost use lib.ListN.{getD, length};
-ghost use Rattle.ops.specs.Assembly.{assemblyCells};
 ghost use Rattle.ops.specs.Format as Format;
 ghost use Rattle.ops.specs.Ops.{rows, cellsOf};
 ghost use Rattle.language.specs.Operation.{formatsOf, hasText};
-ghost use Rattle.asm_types.specs.Views.{assemblyAt, operationView};
-ghost use Rattle.asm_operations.specs.Codes.{listed, operandFormat};
-use crate::codes::cell;
+ghost use Rattle.asm_types.specs.Views.{operationView};
+ghost use Rattle.asm_operations.specs.Codes.{cardCount, cardFormat, operandFormat};
 use crate::codes::class_of;
+use crate::codes::row_index;
 use asm_sections::codes;
 use asm_sections::codes::code_of;
 use asm_types::Operation;
@@ -20,8 +18,13 @@ use ops::cells;
 use ops::class;
 use ops::format::NONE;
 use ops::format::PTYP;
-use ops::table;
+use ops::table::CELLS;
+use ops::table::CLASS;
+use ops::table::COUNT;
+use ops::table::ONE;
 use ops::table::Operations;
+use ops::table::THREE;
+use ops::table::TWO;
 
 // The card has a text after its operand: ERR and ERB.
 pub fn has_text(list: &Operations, o: Operation) -> bool
@@ -35,50 +38,63 @@ pub fn has_text(list: &Operations, o: Operation) -> bool
     k == class::ERB
 }
 
-// Cell j of the row of the assembly operation of code n.
-fn assembly_cell(n: u32, j: usize) -> u8
-    requires { ⌜ (n < 13) × (j < 9) ⌝ }
-    ensures { λ r. ⌜ r ≡ getD (assemblyCells (assemblyAt n)) j 0 ⌝ }
-{
-    let list = assemblies();
-    list[n as usize][j]
-}
-
-// The code of the format of operand i, below 3.
-fn code_at(list: &Operations, o: Operation, i: usize) -> u8
-    requires { ⌜ (now list ≡ map cellsOf rows) × (i < 3) ⌝ }
-    ensures { λ r. ⌜ r ≡ getD (listed (operationView o)) (5 + i) 0 ⌝ }
-{
-    let n = code_of(o);
-    if n < codes::EMPTY {
-        return assembly_cell(n, table::ONE + i);
-    }
-    cell(list, o, table::ONE + i, cells::NONE)
-}
-
-// The word of the format of operand i.
-fn operand_format(list: &Operations, o: Operation, i: usize) -> u32
-    requires { ⌜ now list ≡ map cellsOf rows ⌝ }
-    ensures { λ r. ⌜ r ≡ operandFormat (listed (operationView o)) i ⌝ }
+// The word of the format of operand i in a row.
+fn operand_format(row: &[u8; CELLS], i: usize) -> u32
+    ensures { λ r. ⌜ r ≡ operandFormat (now (row .entry)) i ⌝ }
 {
     if 3 <= i {
         return NONE;
     }
-    code_word(code_at(list, o, i))
+    code_word(row[ONE + i])
 }
 
-// The word of format i, NONE past the last: a procedure type stands before PRC's operand.
-pub fn format_at(list: &Operations, o: Operation, i: usize) -> u32
-    requires { ⌜ (now list ≡ map cellsOf rows) × (i < 4) ⌝ }
-    ensures { λ r. ⌜ r ≡ Format.formatWord (getD (formatsOf (operationView o)) i Format.NONE) ⌝ }
+// The word of format i of a row's card: a procedure type stands before PRC's operand.
+fn format_in(row: &[u8; CELLS], i: usize) -> u32
+    ensures { λ r. ⌜ r ≡ cardFormat (now (row .entry)) i ⌝ }
 {
-    if class_of(list, o) != class::PRC {
-        return operand_format(list, o, i);
+    if row[CLASS] != cells::PRC {
+        return operand_format(row, i);
     }
     if i == 0 {
         return PTYP;
     }
-    operand_format(list, o, i - 1)
+    operand_format(row, i - 1)
+}
+
+// How many formats a row's card has.
+fn count_in(row: &[u8; CELLS]) -> usize
+    ensures { λ r. ⌜ r ≡ cardCount (now (row .entry)) ⌝ }
+{
+    if row[ONE] == cells::NONE {
+        return 0;
+    }
+    if row[CLASS] == cells::PRC {
+        return 2;
+    }
+    if row[TWO] == cells::NONE {
+        return 1;
+    }
+    if row[THREE] == cells::NONE {
+        return 2;
+    }
+    3
+}
+
+// The word of format i, NONE past the last.
+pub fn format_at(list: &Operations, o: Operation, i: usize) -> u32
+    requires { ⌜ now list ≡ map cellsOf rows ⌝ }
+    ensures { λ r. ⌜ r ≡ Format.formatWord (getD (formatsOf (operationView o)) i Format.NONE) ⌝ }
+{
+    let n = code_of(o);
+    if n < codes::EMPTY {
+        let own = assemblies();
+        return format_in(&own[n as usize], i);
+    }
+    let k = row_index(o);
+    if k < COUNT {
+        return format_in(&list[k], i);
+    }
+    NONE
 }
 
 // How many formats there are.
@@ -86,17 +102,14 @@ pub fn format_count(list: &Operations, o: Operation) -> usize
     requires { ⌜ now list ≡ map cellsOf rows ⌝ }
     ensures { λ r. ⌜ r ≡ length (formatsOf (operationView o)) ⌝ }
 {
-    if code_at(list, o, 0) == cells::NONE {
-        return 0;
+    let n = code_of(o);
+    if n < codes::EMPTY {
+        let own = assemblies();
+        return count_in(&own[n as usize]);
     }
-    if class_of(list, o) == class::PRC {
-        return 2;
+    let k = row_index(o);
+    if k < COUNT {
+        return count_in(&list[k]);
     }
-    if code_at(list, o, 1) == cells::NONE {
-        return 1;
-    }
-    if code_at(list, o, 2) == cells::NONE {
-        return 2;
-    }
-    3
+    0
 }

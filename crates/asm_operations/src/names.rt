@@ -1,15 +1,15 @@
 // The operation of a line, by its three letters [S Cards].
 ghost use mathlib.Core.Path.{_≡_};
 ghost use mathlib.Core.List.{map};
-ghost use Prim.Native.Nat.{_≤_};
-ghost use lib.ListN.{drop, length};
+ghost use Prim.Native.Nat.{_≤_, _-_};
+ghost use lib.ListN.{drop, length, take};
 ghost use Rattle.base.specs.Test.{_and_};
 ghost use Rattle.ops.specs.Ops.{rows, cellsOf, packed};
 ghost use Rattle.op_lookup.specs.Answers.{AnswersIn};
 ghost use Rattle.language.specs.Text.{isLetter};
 ghost use Rattle.language.specs.Operation.{assemblies, assemblyIn, operationIn, operationNamed, operationOf};
 ghost use Rattle.asm_types.specs.Views.{operationView};
-ghost use Rattle.asm_operations.specs.Codes.{begin};
+ghost use Rattle.asm_operations.specs.Codes.{begin, end};
 use asm_text::fields_of;
 use asm_text::is_empty;
 use asm_text::is_letter;
@@ -18,6 +18,7 @@ use op_lookup::find_letters_in;
 use op_table::assembly::assemblies;
 use ops::lookup::Lookup;
 use ops::table::CELLS;
+use ops::table::COUNT;
 use ops::table::Operations;
 
 // The assembly operation of three letters.
@@ -32,26 +33,38 @@ fn assembly_named(a: u8, b: u8, c: u8) -> Operation
     Operation::Assembles(i as u32)
 }
 
-// A row of the operation table that no row with this first letter stands before: the table is in the order of the alphabet, and has three rows and
-// more a letter on the average.
+// The rows of the operation table with a first letter stand from `begins` on and before `ends` of that: the table is in the order of the alphabet, has more
+// than seventeen rows before C, three and more a letter from there on, and twenty at most from such a row to the last of its letter.
+const WINDOW: usize = 20;
+
 fn begins(a: u8) -> usize
-    ensures { λ r. ⌜ (r ≡ begin a) × (r ≤ 75) ⌝ }
+    ensures { λ r. ⌜ (r ≡ begin a) × (r ≤ 86) ⌝ }
 {
-    if a < b'A' {
+    if a < b'C' {
         return 0;
     }
     if b'Z' < a {
         return 0;
     }
-    ((a - b'A') as usize) * 3
+    ((a - b'C') as usize) * 3 + 17
 }
 
-// The look-up by letters in the rows from one on.
-fn find_from(rows: &[[u8; CELLS]], from: usize, a: u8, b: u8, c: u8) -> Lookup
-    requires { ⌜ from ≤ length (now rows) ⌝ }
-    ensures { λ r. ⌜ AnswersIn (drop from (now (rows .entry))) a b c r ⌝ }
+fn ends(from: usize) -> usize
+    requires { ⌜ from ≤ 86 ⌝ }
+    ensures { λ r. ⌜ (r ≡ end from) × (from ≤ r) × (r ≤ 89) ⌝ }
 {
-    find_letters_in(&rows[from..], a, b, c)
+    if COUNT - WINDOW < from {
+        return COUNT;
+    }
+    from + WINDOW
+}
+
+// The look-up by letters in the rows from one on and before another.
+fn find_within(rows: &[[u8; CELLS]], from: usize, to: usize, a: u8, b: u8, c: u8) -> Lookup
+    requires { ⌜ (from ≤ to) × (to ≤ length (now rows)) ⌝ }
+    ensures { λ r. ⌜ AnswersIn (take (to - from) (drop from (now (rows .entry)))) a b c r ⌝ }
+{
+    find_letters_in(&rows[from..to], a, b, c)
 }
 
 // The operation of three letters: a row of the operation table, an assembly operation, or unknown.
@@ -60,11 +73,13 @@ pub fn named(list: &Operations, a: u8, b: u8, c: u8) -> Operation
     ensures { λ r. ⌜ operationView r ≡ operationNamed a b c ⌝ }
 {
     let from = begins(a);
-    let found = find_from(list, from, a, b, c);
+    let to = ends(from);
+    let found = find_within(list, from, to, a, b, c);
     let Lookup::Row(i) = found else {
         return assembly_named(a, b, c);
     };
-    Operation::Operates(from + i)
+    let row = from + i;
+    Operation::Operates(row)
 }
 
 // Three bytes are letters.

@@ -19,8 +19,6 @@ use Rattle.language.specs.Card.{Card}
 use Rattle.language.specs.Symbol.{Symbol}
 use Rattle.language.specs.Operand.{Outcome, awaits, gives, misfits, missing, operandAt, operandOf, operandsOf, outcomes, unnamed}
 use Rattle.asm_types.specs.Views.{cutForm}
-use Rattle.asm_operations.specs.Codes.{cardCount}
-use Rattle.asm_operations.proofs.FormatWords.{count-by}
 use Rattle.asm_values.specs.Read.{formatOf}
 use Rattle.asm_operands.specs.LineCard.{lineCard}
 use Rattle.asm_operands.proofs.ReadBack.{format-read, operand-read}
@@ -86,18 +84,6 @@ module _ (all : List Symbol) (c : Card) where
           (q ∙ ap cutForm (sym (written-at (c .operation) (c .line) i k)))
           ∙ operand-read all c format (getD (writtenForms (c .operation) (c .line)) i formless) (format-read (c .operation) i h)
           ∙ sym (by-index (formatsOf (c .operation)) (writtenForms (c .operation) (c .line)) i h k)
-
--- at most four formats
-count-le : (cells : List ℕ) → cardCount cells ≤ 4
-unfolding cardCount
-count-le cells =
-    by-if (λ (k : ℕ). k ≤ 4) _ _ _ (λ e. omega arith)
-    (λ e. by-if (λ (k : ℕ). k ≤ 4) _ _ _ (λ e. omega arith)
-    (λ e. by-if (λ (k : ℕ). k ≤ 4) _ _ _ (λ e. omega arith)
-    (λ e. by-if (λ (k : ℕ). k ≤ 4) _ _ _ (λ e. omega arith) (λ e. omega arith))))
-
-pub formats-le : (o : Operation) → length (formatsOf o) ≤ 4
-formats-le o = rw (count-by o) (count-le _)
 
 -- a test of each kind of outcome
 pub given-passes : (t k r v : ℕ) → true ≡ testBy t (gives k r v)

@@ -27,6 +27,7 @@ use asm_types::Outcome;
 use asm_types::Term;
 use asm_values::formats::missing;
 use ops::format::NO_KIND;
+use ops::format::NONE;
 use ops::table::Operations;
 
 // How many texts a line's operand field has.
@@ -145,14 +146,14 @@ pub fn outcome_at(list: &Operations, c: Card, s: &[u8], syms: &[u64], n: usize, 
     ensures { λ r. ⌜ outcomeView r ≡ operandAt (outcomes (symbolsIn (now (syms .entry)) n) (cardView c (now (s .entry)))) i ⌝ }
 {
     let o = c.operation;
-    if format_count(list, o) <= i {
+    let format = format_at(list, o, i);
+    if format == NONE {
         return Outcome::Gives(Given {
             kind: NO_KIND,
             reg: 0,
             val: 0,
         });
     }
-    let format = format_at(list, o, i);
     if form_count(list, c, s) <= i {
         return missing(format);
     }

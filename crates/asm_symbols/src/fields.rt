@@ -8,19 +8,29 @@ ghost use Rattle.asm_symbols.specs.Symbolic.{Symbolic, Added, lastSort, 
 ghost use Rattle.asm_symbols.specs.Walk.{Next, NextAbove, NextOf, among, namedFrom};
 use asm_types::Symbols;
 
-// The first symbol of name k from symbol `from` on, or n.
+// The first symbol of name k from symbol `from` on, or n. Two a turn: a loop of one is short enough that its speed hangs on where it lies.
 pub fn next_named(syms: &[u64], n: usize, from: usize, k: u64) -> usize
     requires { ⌜ Symbolic (now syms) n × (from ≤ n) ⌝ }
     ensures { λ r. ⌜ Next (now (syms .entry)) n from k r ⌝ }
 {
     let mut i = from;
-    while i < n {
-        if syms[Symbols::WORDS * i] == k {
+    while i + 1 < n {
+        let b = Symbols::WORDS * i;
+        if syms[b] == k {
             return i;
         }
-        i += 1;
+        if syms[b + Symbols::WORDS] == k {
+            return i + 1;
+        }
+        i += 2;
     }
-    i
+    if i == n {
+        return n;
+    }
+    if syms[Symbols::WORDS * i] == k {
+        return i;
+    }
+    n
 }
 
 // The first of them that stands above a line.

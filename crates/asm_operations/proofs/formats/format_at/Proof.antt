@@ -1,71 +1,86 @@
--- `asm_operations::formats::format_at` meets its contract: a procedure type moves the operand up.
+-- `asm_operations::formats::format_at` meets its contract: by the row in either list, or past the end.
 -- Assumes nothing.
-use mathlib.Core.Path.{sym, _∙_}
+use Prim.Native.Nat.{ℕ}
+use mathlib.Core.Path.{ap, sym, _∙_}
+use mathlib.Core.List.{List}
 use borrow.Author.Needs.{needs}
-use borrow.Author.Tests.{eq-eqb, ne-eqb}
-use Rattle.base.specs.Test.{if}
 use Rattle.asm_types.specs.Views.{operationView}
 use Rattle.asm_operations.specs.Codes.{cardFormat}
-use Rattle.asm_operations.proofs.FormatWords.{format-by, listed-class}
+use Rattle.asm_operations.proofs.FormatWords.{format-by, none-format, row-assembly, row-nowhere, row-operation}
 use Rattle.asm_operations.proofs.formats.format_at.Statement.{statement}
 use Rattle.asm_operations.proofs.formats.format_at.Tie as tie
 
-class-of-requires : tie.Need-class-of-requires
-class-of-requires c κs = search needs
+code-of-requires : tie.Need-code-of-requires
+code-of-requires c κs = search needs
 
-operand-format-requires : tie.Need-operand-format-requires
-operand-format-requires c κs = search needs
+assemblies-requires : tie.Need-assemblies-requires
+assemblies-requires c κs = search needs
+
+cast-format-in : tie.Need-cast-format-in
+cast-format-in c = search needs
+
+mul-format-in : tie.Need-mul-format-in
+mul-format-in c = search needs
+
+index-1-format-in : tie.Need-index-1-format-in
+index-1-format-in c = search needs
+
+format-in-requires : tie.Need-format-in-requires
+format-in-requires c κs = search needs
 
 returns : tie.Need-returns
-unfolding cardFormat if
 returns c =
-    let a = c .before .before .before in
+    let d = c .before .before .before .before in
+    let a = d .before in
     let o = operationView (a .args .o) in
-    c .operand-format .ensures
-    ∙ rw (format-by o (a .args .i) (a .pre .1), ← listed-class o, ← c .before .before .class-of .ensures, ne-eqb _ 17 (c .before .if1 .taken))
+    c .format-in .ensures
+    ∙ ap (λ (l : List ℕ). cardFormat l (a .args .i)) (row-assembly o _ (d .code-of .ensures) (c .before .before .before .if1 .taken) _ (c .before .before .assemblies .ensures))
+    ∙ sym (format-by o (a .args .i))
+
+row-index-requires : tie.Need-row-index-requires
+row-index-requires c κs = search needs
+
+mul-format-in-2 : tie.Need-mul-format-in-2
+mul-format-in-2 c = search needs
+
+index-1-format-in-2 : tie.Need-index-1-format-in-2
+index-1-format-in-2 c = search needs
+
+format-in-requires-2 : tie.Need-format-in-requires-2
+format-in-requires-2 c κs = search needs
 
 returns-2 : tie.Need-returns-2
-unfolding cardFormat if
 returns-2 c =
-    let a = c .before .before .before in
+    let k = c .before .before .before in
+    let d = k .before .before in
+    let a = d .before in
     let o = operationView (a .args .o) in
-    rw (
-      format-by o (a .args .i) (a .pre .1),
-      ← listed-class o,
-      ← c .before .before .class-of .ensures,
-      eq-eqb _ 17 (c .before .if1 .left),
-      eq-eqb _ 0 (c .if2 .taken),
-    )
-
-sub-operand-format : tie.Need-sub-operand-format
-sub-operand-format c = search needs
-
-operand-format-requires-2 : tie.Need-operand-format-requires-2
-operand-format-requires-2 c κs = search needs
+    c .format-in2 .ensures
+    ∙ ap (λ (l : List ℕ). cardFormat l (a .args .i)) (row-operation o _ (d .code-of .ensures) (k .before .if1 .left) _ (k .row-index .ensures) _ (a .pre) (c .before .before .if2 .taken))
+    ∙ sym (format-by o (a .args .i))
 
 returns-3 : tie.Need-returns-3
-unfolding cardFormat if
 returns-3 c =
-    let b = c .before .before .before in
-    let a = b .before in
+    let k = c .before in
+    let d = k .before .before in
+    let a = d .before in
     let o = operationView (a .args .o) in
-    c .operand-format2 .ensures
-    ∙ rw (
-      format-by o (a .args .i) (a .pre .1),
-      ← listed-class o,
-      ← b .class-of .ensures,
-      eq-eqb _ 17 (c .before .before .if1 .left),
-      ne-eqb _ 0 (c .before .if2 .left),
-    )
+    sym (format-by o (a .args .i) ∙ ap (λ (l : List ℕ). cardFormat l (a .args .i)) (row-nowhere o _ (d .code-of .ensures) (k .before .if1 .left) _ (k .row-index .ensures) (c .if2 .left)) ∙ none-format (a .args .i))
 
 pub format-at-spec : {M : Type 1} → statement M
 format-at-spec =
     tie.close
     (tie.spec
-    class-of-requires
-    operand-format-requires
+    code-of-requires
+    assemblies-requires
+    cast-format-in
+    mul-format-in
+    index-1-format-in
+    format-in-requires
     returns
+    row-index-requires
+    mul-format-in-2
+    index-1-format-in-2
+    format-in-requires-2
     returns-2
-    sub-operand-format
-    operand-format-requires-2
     returns-3)

@@ -12,15 +12,19 @@ returns : tie.Need-returns
 unfolding operandFormat if
 returns c = rw (le-leb 3 _ (c .if1 .taken))
 
-code-at-requires : tie.Need-code-at-requires
-code-at-requires c κs = search needs
+add-code-word : tie.Need-add-code-word
+add-code-word c = search needs
+
+element-copy-out-code-word : tie.Need-element-copy-out-code-word
+element-copy-out-code-word c = search needs
 
 code-word-requires : tie.Need-code-word-requires
 code-word-requires c κs = search needs
 
 returns-2 : tie.Need-returns-2
 unfolding operandFormat if
-returns-2 c = c .code-word .ensures ∙ rw (lt-leb 3 _ (c .before .before .if1 .left), c .before .code-at .ensures)
+returns-2 c = c .code-word .ensures ∙ rw (lt-leb 3 _ (c .before .before .if1 .left))
 
 pub operand-format-spec : {M : Type 1} → statement M
-operand-format-spec = tie.close (tie.spec returns code-at-requires code-word-requires returns-2)
+operand-format-spec =
+    tie.close (tie.spec returns add-code-word element-copy-out-code-word code-word-requires returns-2)

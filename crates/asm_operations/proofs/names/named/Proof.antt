@@ -11,8 +11,11 @@ use Rattle.asm_operations.proofs.names.named.Tie as tie
 begins-requires : tie.Need-begins-requires
 begins-requires c κs = search needs
 
-find-from-requires : tie.Need-find-from-requires
-find-from-requires c κs = search needs
+ends-requires : tie.Need-ends-requires
+ends-requires c κs = search needs
+
+find-within-requires : tie.Need-find-within-requires
+find-within-requires c κs = search needs
 
 enum-known-found : tie.Need-enum-known-found
 enum-known-found c = search needs
@@ -27,35 +30,39 @@ returns : tie.Need-returns
 unfolding operationNamed
 returns c =
     let f = c .before .before .before in
-    let a = f .before .before .before in
-    let g = f .before .before .begins .ensures in
+    let e = f .before .before in
+    let g = e .before .begins .ensures in
+    let a = e .before .before in
     c .assembly-named .ensures
-    ∙ rw (← unknown-from (a .args .list .now) (a .pre) (a .args .a) (a .args .b) (a .args .c) _ (g .0) (g .1) _ (f .find-from .ensures) (omega arith) (omega arith) (c .before .enum-told .given .1))
+    ∙ rw (← unknown-from (a .args .list .now) (a .pre) (a .args .a) (a .args .b) (a .args .c) _ _ (g .0) (e .ends .ensures .0) (e .ends .ensures .1) (e .ends .ensures .2) _ (f .find-within .ensures) (omega arith) (omega arith) (c .before .enum-told .given .1))
 
-add-t10 : tie.Need-add-t10
-add-t10 c =
+add-row : tie.Need-add-row
+add-row c =
     let f = c .before .before .before in
-    let a = f .before .before .before in
-    let g = f .before .before .begins .ensures in
-    omega (arith, inside-from (a .args .list .now) (a .pre) (a .args .a) (a .args .b) (a .args .c) _ (g .0) (g .1) _ (f .find-from .ensures) _ (c .before .found .given .1))
+    let e = f .before .before in
+    let g = e .before .begins .ensures in
+    let a = e .before .before in
+    omega (arith, inside-from (a .args .list .now) (a .pre) (a .args .a) (a .args .b) (a .args .c) _ _ (g .0) (e .ends .ensures .0) (e .ends .ensures .1) (e .ends .ensures .2) _ (f .find-within .ensures) _ (c .before .found .given .1))
 
 returns-2 : tie.Need-returns-2
 unfolding operationNamed
 returns-2 c =
     let f = c .before .before .before in
-    let a = f .before .before .before in
-    let g = f .before .before .begins .ensures in
-    rw (← row-from (a .args .list .now) (a .pre) (a .args .a) (a .args .b) (a .args .c) _ (g .0) (g .1) _ (f .find-from .ensures) _ (c .before .found .given .1))
+    let e = f .before .before in
+    let g = e .before .begins .ensures in
+    let a = e .before .before in
+    rw (← row-from (a .args .list .now) (a .pre) (a .args .a) (a .args .b) (a .args .c) _ _ (g .0) (e .ends .ensures .0) (e .ends .ensures .1) (e .ends .ensures .2) _ (f .find-within .ensures) _ (c .before .found .given .1))
 
 pub named-spec : {M : Type 1} → statement M
 named-spec =
     tie.close
     (tie.spec
     begins-requires
-    find-from-requires
+    ends-requires
+    find-within-requires
     enum-known-found
     enum-told
     assembly-named-requires
     returns
-    add-t10
+    add-row
     returns-2)

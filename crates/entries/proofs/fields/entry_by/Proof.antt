@@ -1,26 +1,45 @@
--- `entries::fields::entry_by` meets its contract: each return rewrites with the tests that led there.
+-- `entries::fields::entry_by` meets its contract: the words of the row's codes.
 -- Assumes nothing.
-use Rattle.entries.specs.Coded.{entryBy}
-use Rattle.base.specs.Test.{_and_}
-use borrow.Author.Tests.{not-true, not-false}
-use mathlib.Core.Path.{refl}
+use mathlib.Core.Path.{_∙_}
 use borrow.Author.Needs.{needs}
 use Rattle.entries.proofs.fields.entry_by.Statement.{statement}
 use Rattle.entries.proofs.fields.entry_by.Tie as tie
 
-row-ok-requires : tie.Need-row-ok-requires
-row-ok-requires c κs = search needs
+element-copy-out-code-word : tie.Need-element-copy-out-code-word
+element-copy-out-code-word c = search needs
+
+code-word-requires : tie.Need-code-word-requires
+code-word-requires c κs = search needs
+
+element-copy-out-code-word-2 : tie.Need-element-copy-out-code-word-2
+element-copy-out-code-word-2 c = search needs
+
+code-word-requires-2 : tie.Need-code-word-requires-2
+code-word-requires-2 c κs = search needs
+
+element-copy-out-code-word-3 : tie.Need-element-copy-out-code-word-3
+element-copy-out-code-word-3 c = search needs
+
+code-word-requires-3 : tie.Need-code-word-requires-3
+code-word-requires-3 c κs = search needs
+
+entry-ok-requires : tie.Need-entry-ok-requires
+entry-ok-requires c κs = search needs
 
 returns : tie.Need-returns
-unfolding entryBy _and_
-returns c = rw (← c .before .row-ok .ensures, not-true (c .before .row-ok .result) (c .if1 .taken)) refl
-
-apart-at-requires : tie.Need-apart-at-requires
-apart-at-requires c κs = search needs
-
-returns-2 : tie.Need-returns-2
-unfolding entryBy _and_
-returns-2 c = rw (← c .before .before .row-ok .ensures, not-false (c .before .before .row-ok .result) (c .before .if1 .left)) (c .apart-at .ensures)
+returns c =
+    c .entry-ok .ensures
+    ∙ rw (c .before .before .before .before .before .code-word .ensures, c .before .before .before .code-word2 .ensures, c .before .code-word3 .ensures)
 
 pub entry-by-spec : {M : Type 1} → statement M
-entry-by-spec = tie.close (tie.spec row-ok-requires returns apart-at-requires returns-2)
+entry-by-spec =
+    tie.close
+    (tie.spec
+    element-copy-out-code-word
+    code-word-requires
+    element-copy-out-code-word-2
+    code-word-requires-2
+    element-copy-out-code-word-3
+    code-word-requires-3
+    entry-ok-requires
+    returns)
