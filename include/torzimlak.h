@@ -36,9 +36,10 @@ extern "C" {
 
 /*
  * The words of a state. Links are the places of open calls' JSRs, oldest first. Those from the count on are not looked at, and a start,
- * run, resume or restore that is not refused writes them as 0. More words than these may be lent: the words behind are neither looked at
- * nor changed. Fewer are no state (31).
- * Between calls a host may write memory, the six registers and IA as it likes. What else it writes is judged by the state check.
+ * run, resume or restore that is not refused writes them as 0. RA is a 64-bit float, always finite: its low 32 bits, then its high ones.
+ * More words than these may be lent: the words behind are neither looked at nor changed. Fewer are no state (31).
+ * Between calls a host may write memory, the six registers and IA as it likes. What else it writes, RA and its flag too, is judged by the
+ * state check.
  */
 enum {
     TORZIMLAK_XL = 0,
@@ -48,29 +49,32 @@ enum {
     TORZIMLAK_WB = 4,
     TORZIMLAK_WC = 5,
     TORZIMLAK_IA = 6,      /* 32 bits, signed */
-    TORZIMLAK_FLAG = 7,    /* overflow: 0 or 1 */
+    TORZIMLAK_FLAG = 7,    /* overflow of IA: 0 or 1 */
     TORZIMLAK_PLACE = 8,
     TORZIMLAK_WAITING = 9, /* 0 or 1 */
     TORZIMLAK_COUNT = 10,  /* of links, at most 256 */
     TORZIMLAK_LINKS = 11,
-    TORZIMLAK_STATE_WORDS = 267
+    TORZIMLAK_RA_LOW = 267,
+    TORZIMLAK_RA_HIGH = 268,
+    TORZIMLAK_REAL_FLAG = 269, /* overflow of RA: 0 or 1 */
+    TORZIMLAK_STATE_WORDS = 270
 };
 
 /*
  * Limits. A table of TORZIMLAK_TABLE_WORDS words holds any program, a file of TORZIMLAK_FILE_BYTES bytes any machine: memory, 256 links,
- * 32 fresh addresses and a trailer of 16 words.
+ * 32 fresh addresses and a trailer of 19 words.
  */
 enum {
     TORZIMLAK_MIN_MEMORY = 256,
     TORZIMLAK_MAX_MEMORY = 8192,
     TORZIMLAK_MAX_BUDGET = 1000000,
     TORZIMLAK_TABLE_WORDS = 16872,
-    TORZIMLAK_FILE_BYTES = 33984 /* 4 * (8192 + 256 + 32 + 16) */
+    TORZIMLAK_FILE_BYTES = 33996 /* 4 * (8192 + 256 + 32 + 19) */
 };
 
 /*
- * Bytes of stack that are enough for a call of torzimlak_assemble, and of each other function. The code itself takes at most 1,079,192
- * bytes, torzimlak_run 20,872, torzimlak_resume 19,672, each other function under 18,800; the rest is for memcpy and memset, of which a
+ * Bytes of stack that are enough for a call of torzimlak_assemble, and of each other function. The code itself takes at most 1,079,320
+ * bytes, torzimlak_run 21,032, torzimlak_resume 19,864, each other function under 19,000; the rest is for memcpy and memset, of which a
  * loader that binds them at their first call takes some thousands.
  */
 enum {
@@ -89,15 +93,15 @@ uint32_t torzimlak_check_table(const uint32_t *table, size_t table_words);
 
 /*
  * 0: the state may be run on the table with memory of that many words. In this order, 30: the table; 31: fewer words than a state has, a
- * flag or waiting word that is neither 0 nor 1, the length of memory, or the state.
+ * flag or waiting word that is neither 0 nor 1, an RA that is not finite, the length of memory, or the state.
  */
 uint32_t torzimlak_check_state(const uint32_t *table, size_t table_words, size_t memory_words, const uint32_t *state, size_t state_words);
 
 /*
  * The plain start: a machine in lent memory with the host's fresh words, its argument in WA. 0: started; the program's words are set, and
- * all words behind them are 0, so that nothing of what the memory held before is left. In this order, 30: the table; 31: fewer words are
- * lent than a state has; 10: memory's length; 43: the count of fresh words. A refused start clears nothing. What the lent state held is
- * not looked at.
+ * all words behind them are 0, so that nothing of what the memory held before is left; RA is +0, and both flags are off. In this order,
+ * 30: the table; 31: fewer words are lent than a state has; 10: memory's length; 43: the count of fresh words. A refused start clears
+ * nothing. What the lent state held is not looked at.
  */
 uint32_t torzimlak_start(const uint32_t *table, size_t table_words, uint32_t *memory, size_t memory_words, const uint32_t *fresh,
                          size_t fresh_words, uint32_t argument, uint32_t *state, size_t state_words);
@@ -135,8 +139,10 @@ uint64_t torzimlak_write(const uint32_t *table, size_t table_words, const uint32
 
 /*
  * The machine at the end of the file, woken in the lent memory and state with the host's fresh words. 0: woken. In this order, 30: the
- * table; 31: fewer words are lent than a state has; 40: the trailer; 41: another program or build; 42: the frozen state; 43: the count of
- * fresh words; 44: the length of memory. What the lent state held is not looked at.
+ * table; 31: fewer words are lent than a state has; 40: the trailer, also a flag in it that is neither 0 nor 1 or an RA that is not finite;
+ * 41: another program or build; 42: the frozen state; 43: the count of fresh words; 44: the length of memory. What the lent state held is
+ * not looked at. A file of before there were reals, with a trailer of 16 words, is taken too, as its length L says: RA is then +0 and its
+ * flag off.
  */
 uint32_t torzimlak_restore(const uint32_t *table, size_t table_words, const uint8_t *file, size_t bytes, uint32_t build,
                            const uint32_t *fresh, size_t fresh_words, uint32_t *memory, size_t memory_words, uint32_t *state,

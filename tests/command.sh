@@ -102,7 +102,7 @@ while IFS= read -r line; do
     name=$(printf '%s' "$line" | cut -c 7-9)
     same "operations $name" "$("$torzimlak" operations "$name")" "$line"
 done < "$top/crates/operations/stdout"
-for name in EQU DTC SEC LDR XYZ mov MOv MO MOVE '' ' MOV' MOVMOVMOVMOVMOVMOV; do
+for name in EQU DTC DRC SEC XYZ mov MOv MO MOVE '' ' MOV' MOVMOVMOVMOVMOVMOV; do
     try 0 unknown '' "$torzimlak" operations "$name"
 done
 
@@ -220,20 +220,23 @@ done
 try 0 'ended 20: waiting for the host at a call of an external procedure
 steps 13, place 12, open calls 0
 XL 24, XR 36, XS 32768, WA 12, WB 33, WC 0, IA 0, overflow 0
+RA 0, overflow 0
 waits in EXP 0, exits 0
 text: HELLO, ANNA!' '' "$torzimlak" run greeting.min
-for line in 'basket 4508' 'currency NO PRICE' 'discount 20000' 'greeting HELLO, ANNA!' 'pricelist NOT LISTED' 'replace THE DOG SAW A DOGFISH AND ANOTHER DOG'; do
+for line in 'basket 4508' 'currency NO PRICE' 'discount 199.97' 'greeting HELLO, ANNA!' 'pricelist NOT LISTED' 'replace THE DOG SAW A DOGFISH AND ANOTHER DOG'; do
     same "run ${line%% *}.min: text" "$("$torzimlak" run "${line%% *}.min" | sed -n 's/^text: //p')" "${line#* }"
 done
 deck 'START BRN START' ../loop.min
 try 0 'ended 21: the budget is used
 steps 1000000, place 0, open calls 0
-XL 32508, XR 16, XS 32768, WA 0, WB 0, WC 0, IA 0, overflow 0' '' "$torzimlak" run ../loop.min
+XL 32508, XR 16, XS 32768, WA 0, WB 0, WC 0, IA 0, overflow 0
+RA 0, overflow 0' '' "$torzimlak" run ../loop.min
 deck 'START MOV (XS),WA
  BRN START' ../stop.min
 try 1 'ended 22: an address past memory, or unaligned for a word
 steps 0, place 0, open calls 0
-XL 32508, XR 16, XS 32768, WA 0, WB 0, WC 0, IA 0, overflow 0' '../stop.min: the program was stopped (22): an address past memory, or unaligned for a word' "$torzimlak" run ../stop.min
+XL 32508, XR 16, XS 32768, WA 0, WB 0, WC 0, IA 0, overflow 0
+RA 0, overflow 0' '../stop.min: the program was stopped (22): an address past memory, or unaligned for a word' "$torzimlak" run ../stop.min
 deck 'START LDI MINUS
  MOV =ABCDE,XL
  MOV =ONE$$,WA
@@ -244,6 +247,7 @@ deck 'START LDI MINUS
 try 0 'ended 20: waiting for the host at a call of an external procedure
 steps 4, place 3, open calls 0
 XL 8, XR 16, XS 32768, WA 4, WB 0, WC 0, IA -5, overflow 0
+RA 0, overflow 0
 waits in EXP 1, exits 2
 text: ABCD' '' "$torzimlak" run ../told.min
 deck 'START MOV =ONE$$,XL
@@ -263,6 +267,7 @@ try 1 '' '../missing.min: No such file or directory' "$torzimlak" run ../missing
 waits='ended 20: waiting for the host at a call of an external procedure
 steps 1, place 0, open calls 0
 XL 32508, XR 36, XS 32768, WA 0, WB 0, WC 0, IA 0, overflow 0
+RA 0, overflow 0
 waits in EXP 0, exits 0'
 try 0 "fresh words: 1, as given
 $waits" '' "$torzimlak" run token.min 4294967295
@@ -280,14 +285,15 @@ try 1 '' "greeting.min: refused (43): the count of fresh words is not the progra
 # freeze: what it says, what it writes, what it leaves.
 try 0 "fresh words: 1, as given
 $waits
-token.snapshot: 32836 bytes" '' "$torzimlak" freeze token.min token.snapshot 7
-same 'the length of the snapshot' "$(($(wc -c < token.snapshot)))" 32836
+token.snapshot: 32848 bytes" '' "$torzimlak" freeze token.min token.snapshot 7
+same 'the length of the snapshot' "$(($(wc -c < token.snapshot)))" 32848
 "$torzimlak" freeze token.min ../other.snapshot 8 > ../out
 same 'machines that differ in fresh words have one file' "$(cmp token.snapshot ../other.snapshot 2>&1)" ''
 before=$(files)
 try 1 'ended 22: an address past memory, or unaligned for a word
 steps 0, place 0, open calls 0
-XL 32508, XR 16, XS 32768, WA 0, WB 0, WC 0, IA 0, overflow 0' '../stop.min: the program was stopped (22): an address past memory, or unaligned for a word' "$torzimlak" freeze ../stop.min stop.snapshot
+XL 32508, XR 16, XS 32768, WA 0, WB 0, WC 0, IA 0, overflow 0
+RA 0, overflow 0' '../stop.min: the program was stopped (22): an address past memory, or unaligned for a word' "$torzimlak" freeze ../stop.min stop.snapshot
 try 1 '' 'token.snapshot: File too large' limited freeze token.min token.snapshot 9
 try 1 '' '../folder: Is a directory' "$torzimlak" freeze token.min ../folder 9
 try 1 '' '../none/token.snapshot: No such file or directory' "$torzimlak" freeze token.min ../none/token.snapshot 9
@@ -300,6 +306,7 @@ try 0 'fresh words: 1, as given
 ended 20: waiting for the host at a call of an external procedure
 steps 70, place 14, open calls 0
 XL 24, XR 24, XS 32768, WA 8, WB 0, WC 0, IA 0, overflow 0
+RA 0, overflow 0
 waits in EXP 1, exits 0
 text: 0000002A' '' "$torzimlak" wake token.min token.snapshot 42
 token() {
@@ -314,13 +321,21 @@ if [ "$one" != "$two" ]; then pass; else fail 'two wakes have two tokens'; fi
 "$torzimlak" freeze ../loop.min ../loop.snapshot > ../out
 try 0 'ended 21: the budget is used
 steps 1000000, place 0, open calls 0
-XL 32508, XR 16, XS 32768, WA 0, WB 0, WC 0, IA 0, overflow 0' '' "$torzimlak" wake ../loop.min ../loop.snapshot
+XL 32508, XR 16, XS 32768, WA 0, WB 0, WC 0, IA 0, overflow 0
+RA 0, overflow 0' '' "$torzimlak" wake ../loop.min ../loop.snapshot
+# files of before there were reals wake as they did
+old=$top/tests/old
+same 'an old file of token.min' "$("$torzimlak" wake "$old/token.min" "$old/token.snapshot" 42 | sed -n 's/^text: //p')" 0000002A
+for line in 'basket 4508' 'currency NO PRICE' 'discount 15000' 'greeting HELLO, ANNA!' 'pricelist 1999' 'replace THE DOG SAW A DOGFISH AND ANOTHER DOG'; do
+    name=${line%% *}
+    same "an old file of $name.min" "$("$torzimlak" wake "$old/$name.min" "$old/$name.snapshot" | sed -n 's/^text: //p')" "${line#* }"
+done
 { printf 'bytes in front'; cat token.snapshot; } > ../fronted
 same 'bytes in front do not matter' "$("$torzimlak" wake token.min ../fronted 42 | sed -n 's/^text: //p')" 0000002A
 
 # wake: snapshots that are damaged, of another program, too long, or none.
-trailer=$((32836 - 64))
-# name, offset in the trailer, byte, refusal
+trailer=$((32848 - 64))
+# name, offset from the build number, byte, refusal
 while read -r name offset value reason; do
     cp token.snapshot ../damaged
     byte ../damaged $((trailer + offset)) "$value"
@@ -335,12 +350,17 @@ place 20 255 (42): the frozen state does not pass its check
 waiting 24 2 (40): the file has no lawful trailer
 flag 56 2 (40): the file has no lawful trailer
 length 60 255 (40): the file has no lawful trailer
-fresh-address -4 255 (41): the file is of another program or build
+fresh-address -16 255 (41): the file is of another program or build
+real-flag -4 2 (40): the file has no lawful trailer
 END
+cp token.snapshot ../damaged
+byte ../damaged $((trailer - 5)) 127
+byte ../damaged $((trailer - 6)) 240
+try 1 '' '../damaged: refused (40): the file has no lawful trailer' "$torzimlak" wake token.min ../damaged 1
 cp token.snapshot ../damaged
 byte ../damaged 20 1
 try 1 '' '../damaged: refused (42): the frozen state does not pass its check' "$torzimlak" wake token.min ../damaged 1
-head -c 32835 token.snapshot > ../damaged
+head -c 32847 token.snapshot > ../damaged
 try 1 '' '../damaged: refused (40): the file has no lawful trailer' "$torzimlak" wake token.min ../damaged 1
 try 1 '' 'token.min: refused (40): the file has no lawful trailer' "$torzimlak" wake token.min token.min 1
 try 1 '' 'token.snapshot: refused (41): the file is of another program or build' "$torzimlak" wake greeting.min token.snapshot

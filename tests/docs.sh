@@ -42,7 +42,7 @@ block() {
 # README's deck.
 block cards > "$work/next.min"
 block text > "$work/printed"
-same 'README has a deck and what it prints' "$(grep -c . "$work/next.min") $(grep -c . "$work/printed")" '22 5'
+same 'README has a deck and what it prints' "$(grep -c . "$work/next.min") $(grep -c . "$work/printed")" '22 6'
 try "README's deck" 0 "$(cat "$work/printed")" "$top/torzimlak" run "$work/next.min"
 
 # 'NAME FILES' for each name in the claims: of the rows of docs/PROOFS.md, and of README's list, where an item may have a second line.

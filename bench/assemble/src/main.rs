@@ -55,7 +55,7 @@ fn plain_warm(table: &[u32]) -> Vec<u8> {
     let mut memory = vec![0; 256];
     let mut state = machine::start(table, &mut memory, &[1], 0).expect("a start");
     machine::run(table, &mut memory, &mut state, 1000);
-    let mut file = vec![0; 4 * (256 + 256 + 32) + 64];
+    let mut file = vec![0; 4 * (256 + 256 + 32) + 76];
     let length = snapshot::write(table, &memory, &state, 1, &mut file).expect("a file");
     file.truncate(length);
     file

@@ -3,10 +3,12 @@
 
 use std::hint::black_box;
 use torzimlak::sys::{check_state, check_table};
-use torzimlak_bench::state::{plain, state, with, COUNT, FLAG, LINKS, PLACE, WAITING, WORDS};
+use torzimlak_bench::state::{
+    plain, state, with, COUNT, FLAG, LINKS, PLACE, RA_HIGH, RA_LOW, REAL_FLAG, WAITING, WORDS,
+};
 use torzimlak_bench::tables::{empty_switches, full, one_remainder, switch, Full, Switch, AROUND, ENTRIES, LIMIT};
 use torzimlak_bench::{rounds, used, Goal, Measure, Measures, Times};
-use torzimlak_plain::{check, machine};
+use torzimlak_plain::{check, host, machine};
 
 /// Words of memory.
 const MEMORY: usize = 8192;
@@ -36,9 +38,8 @@ fn passes(t: &[u32]) -> bool {
 /// The number of the state check; the plain one answers alike where the words are a state.
 fn judged(t: &[u32], memory: usize, s: &[u32]) -> u32 {
     let number = check_state(t, memory, s);
-    let a_state = s.len() == WORDS && s[FLAG] <= 1 && s[WAITING] <= 1 && s[COUNT] <= 256;
-    if number != 30 && a_state {
-        assert_eq!(machine::check_state(t, memory, &plain(s)), number == 0);
+    if let Some(own) = host::state(s).filter(|_| number != 30) {
+        assert_eq!(machine::check_state(t, memory, &own), number == 0);
     }
     number
 }
@@ -71,6 +72,11 @@ fn compare_states(a: &Full, shallow: &[u32], nested: &[u32]) {
         assert_eq!(judged(&a.table, MEMORY, &s[..WORDS - 1]), 31);
         assert_eq!(judged(&a.table, MEMORY, &with(s, FLAG, 1)), 0);
         assert_eq!(judged(&a.table, MEMORY, &with(s, FLAG, 2)), 31);
+        assert_eq!(judged(&a.table, MEMORY, &with(s, REAL_FLAG, 1)), 0);
+        assert_eq!(judged(&a.table, MEMORY, &with(s, REAL_FLAG, 2)), 31);
+        assert_eq!(judged(&a.table, MEMORY, &with(s, RA_LOW, u32::MAX)), 0);
+        assert_eq!(judged(&a.table, MEMORY, &with(s, RA_HIGH, 0x7fef_ffff)), 0);
+        assert_eq!(judged(&a.table, MEMORY, &with(s, RA_HIGH, 0xfff0_0000)), 31);
         assert_eq!(judged(&a.table, MEMORY, &with(s, WAITING, 1)), 31);
         assert_eq!(judged(&a.table, MEMORY, &with(s, COUNT, 257)), 31);
         assert_eq!(judged(&a.table[1..], MEMORY, s), 30);

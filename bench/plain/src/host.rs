@@ -9,26 +9,38 @@ pub const PLACE: usize = 8;
 pub const WAITING: usize = 9;
 pub const COUNT: usize = 10;
 pub const LINKS: usize = 11;
-pub const STATE_WORDS: usize = LINKS + MAX_LINKS;
+pub const RA_LOW: usize = LINKS + MAX_LINKS;
+pub const RA_HIGH: usize = RA_LOW + 1;
+pub const REAL_FLAG: usize = RA_HIGH + 1;
+pub const STATE_WORDS: usize = REAL_FLAG + 1;
 
-/// The words of a state, 0 behind its links.
+/// The words of a state, 0 from its links' end to RA.
 pub fn words(s: &State) -> [u32; STATE_WORDS] {
     let mut w = [0; STATE_WORDS];
     w[..6].copy_from_slice(&s.regs[1..]);
     w[6..LINKS].copy_from_slice(&[s.ia, s.flag as u32, s.pc, s.waiting as u32, s.links.len() as u32]);
     w[LINKS..LINKS + s.links.len()].copy_from_slice(&s.links);
+    w[RA_LOW..].copy_from_slice(&[s.ra as u32, (s.ra >> 32) as u32, s.real_flag as u32]);
     w
 }
 
-/// The state of some words, if they are one: enough, flag and waiting word 0 or 1, and no more links than there may be.
+/// The state of some words, if they are one: enough, flags and waiting word 0 or 1, and no more links than there may be.
 pub fn state(w: &[u32]) -> Option<State> {
-    if w.len() < STATE_WORDS || w[FLAG] > 1 || w[WAITING] > 1 || w[COUNT] as usize > MAX_LINKS {
+    if w.len() < STATE_WORDS || [FLAG, WAITING, REAL_FLAG].iter().any(|i| w[*i] > 1) || w[COUNT] as usize > MAX_LINKS {
         return None;
     }
     let mut regs = [0; 7];
     regs[1..].copy_from_slice(&w[..6]);
-    let links = w[LINKS..LINKS + w[COUNT] as usize].to_vec();
-    Some(State { regs, ia: w[6], flag: w[FLAG] == 1, pc: w[PLACE], waiting: w[WAITING] == 1, links })
+    Some(State {
+        regs,
+        ia: w[6],
+        flag: w[FLAG] == 1,
+        ra: w[RA_LOW] as u64 | (w[RA_HIGH] as u64) << 32,
+        real_flag: w[REAL_FLAG] == 1,
+        pc: w[PLACE],
+        waiting: w[WAITING] == 1,
+        links: w[LINKS..LINKS + w[COUNT] as usize].to_vec(),
+    })
 }
 
 /// A state in lent words; words behind it stay.

@@ -25,6 +25,7 @@ pub enum Format {
     Eqop,
     Addr,
     Integer,
+    Real,
 }
 
 use Format::*;
@@ -63,7 +64,7 @@ impl Slot {
         }
         let moves = matches!(k, INDIRECT | RISING | FALLING);
         match self.format {
-            Format::None | Ptyp | Eqop | Addr | Integer => false,
+            Format::None | Ptyp | Eqop | Addr | Integer | Real => false,
             Opv => matches!(k, VALUE | ADDRESS | X | W | INDEXED) || moves,
             Opn => matches!(k, ADDRESS | X | W | INDEXED) || moves,
             Opw => matches!(k, ADDRESS | W | INDEXED) || moves,
@@ -157,6 +158,7 @@ const COMPARE: [Slot; 3] = [still(Opn), still(Opv), of(Plbl)];
 const CHARACTERS: [Slot; 3] = [still(Opw), still(Opw), of(Plbl)];
 const BRANCH: [Slot; 3] = [of(Plbl), NO, NO];
 const INTEGER: [Slot; 3] = [of(Ops), NO, NO];
+const REAL: [Slot; 3] = [of(Ops), NO, NO];
 const BITS: [Slot; 3] = [of(Opw), of(W), NO];
 const SILENT: [Slot; 3] = [NO, NO, NO];
 
@@ -168,7 +170,7 @@ const fn two(a: Slot, b: Slot) -> [Slot; 3] {
     [a, b, NO]
 }
 
-pub static ROWS: [Row; 89] = [
+pub static ROWS: [Row; 106] = [
     row("MOV", 101, Class::Goes, two(of(Opv), of(Opn))),
     row("BRN", 102, Class::Brn, BRANCH),
     row("BSW", 103, Class::Bsw, [of(X), of(Val), opt(Plbl)]),
@@ -225,6 +227,21 @@ pub static ROWS: [Row; 89] = [
     row("ILE", 414, Class::Forks, BRANCH),
     row("ILT", 415, Class::Forks, BRANCH),
     row("INE", 416, Class::Forks, BRANCH),
+    row("LDR", 501, Class::Goes, REAL),
+    row("STR", 502, Class::Goes, REAL),
+    row("ADR", 503, Class::Goes, REAL),
+    row("SBR", 504, Class::Goes, REAL),
+    row("MLR", 505, Class::Goes, REAL),
+    row("DVR", 506, Class::Goes, REAL),
+    row("ROV", 507, Class::Forks, BRANCH),
+    row("RNO", 508, Class::Forks, BRANCH),
+    row("NGR", 509, Class::Goes, SILENT),
+    row("REQ", 510, Class::Forks, BRANCH),
+    row("RGE", 511, Class::Forks, BRANCH),
+    row("RGT", 512, Class::Forks, BRANCH),
+    row("RLE", 513, Class::Forks, BRANCH),
+    row("RLT", 514, Class::Forks, BRANCH),
+    row("RNE", 515, Class::Forks, BRANCH),
     row("PLC", 601, Class::Goes, two(of(X), opt(Opv))),
     row("PSC", 602, Class::Goes, two(of(X), opt(Opv))),
     row("LCH", 603, Class::Goes, two(of(Reg), of(Opc))),
@@ -249,6 +266,8 @@ pub static ROWS: [Row; 89] = [
     row("BTW", 802, Class::Goes, one(of(Reg))),
     row("MTI", 803, Class::Goes, one(of(Opn))),
     row("MFI", 804, Class::Forks, two(of(Opn), opt(Plbl))),
+    row("ITR", 805, Class::Goes, SILENT),
+    row("RTI", 806, Class::Forks, one(opt(Plbl))),
     row("CTW", 807, Class::Goes, two(of(W), of(Val))),
     row("CTB", 808, Class::Goes, two(of(W), of(Val))),
     row("BTC", 809, Class::Goes, one(of(W))),

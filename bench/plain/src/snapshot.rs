@@ -4,7 +4,10 @@ use crate::check::check_table;
 use crate::machine::{check_state, State};
 use crate::{Table, MAX_MEMORY, MIN_MEMORY};
 
+/// The bytes from the build number to L.
 const TRAILER: usize = 64;
+/// RA's two words and its flag, which stand before them; files of the old kind have none.
+const REAL: usize = 12;
 
 /// The file's length, or a refusal.
 pub fn write(t: &[u32], m: &[u32], s: &State, build: u32, file: &mut [u8]) -> Result<usize, u32> {
@@ -22,7 +25,8 @@ pub fn write(t: &[u32], m: &[u32], s: &State, build: u32, file: &mut [u8]) -> Re
     }
     words.extend(&s.links);
     words.extend(&fresh);
-    let length = 4 * words.len() + TRAILER;
+    let length = 4 * words.len() + REAL + TRAILER;
+    words.extend([s.ra as u32, (s.ra >> 32) as u32, s.real_flag as u32]);
     words.extend([
         build,
         table.size() as u32,
@@ -43,50 +47,80 @@ pub fn write(t: &[u32], m: &[u32], s: &State, build: u32, file: &mut [u8]) -> Re
     Ok(length)
 }
 
+/// The words of a file, as its trailer parts them.
+struct Frozen {
+    trailer: [u32; 16],
+    memory: Vec<u32>,
+    links: Vec<u32>,
+    addresses: Vec<u32>,
+    /// RA's low word, its high word, its flag.
+    real: [u32; 3],
+}
+
+/// What stands at the end of the file, if it has a lawful trailer of either kind: L says which.
+fn frozen(file: &[u8]) -> Option<Frozen> {
+    let word = |at: usize| u32::from_le_bytes(file[at..at + 4].try_into().unwrap());
+    let last = file.len().checked_sub(TRAILER)?;
+    let trailer: [u32; 16] = std::array::from_fn(|i| word(last + 4 * i));
+    let [_, _, m, k, f, ..] = trailer.map(|w| w as u64);
+    let parts = 4 * (m + k + f);
+    let real_bytes = (trailer[15] as u64).checked_sub(parts + TRAILER as u64)?;
+    let kind_known = real_bytes == 0 || real_bytes == REAL as u64;
+    let in_limits = (MIN_MEMORY as u64..=MAX_MEMORY as u64).contains(&m);
+    let first = file.len().checked_sub(trailer[15] as usize)?;
+    if !kind_known || !in_limits || trailer[6] > 1 || trailer[14] > 1 {
+        return None;
+    }
+    let list = |from: u64, n: u64| -> Vec<u32> { (from..from + n).map(|i| word(first + 4 * i as usize)).collect() };
+    let real = if real_bytes == 0 { [0; 3] } else { std::array::from_fn(|i| word(last - REAL + 4 * i)) };
+    Some(Frozen { trailer, memory: list(0, m), links: list(m, k), addresses: list(m + k, f), real })
+}
+
+impl Frozen {
+    fn state(&self) -> State {
+        let t = &self.trailer;
+        let mut regs = [0; 7];
+        regs[1..].copy_from_slice(&t[7..13]);
+        State {
+            regs,
+            ia: t[13],
+            flag: t[14] == 1,
+            ra: self.real[0] as u64 | (self.real[1] as u64) << 32,
+            real_flag: self.real[2] == 1,
+            pc: t[5],
+            waiting: t[6] == 1,
+            links: self.links.clone(),
+        }
+    }
+}
+
 /// The machine at the end of the file, or a refusal.
 pub fn restore(t: &[u32], file: &[u8], build: u32, fresh: &[u32], m: &mut [u32]) -> Result<State, u32> {
     if !check_table(t) {
         return Err(30);
     }
     let table = Table(t);
-    if file.len() < TRAILER {
+    let frozen = frozen(file).ok_or(40u32)?;
+    let s = frozen.state();
+    if frozen.real[2] > 1 || !s.real().is_finite() {
         return Err(40);
     }
-    let word = |at: usize| u32::from_le_bytes(file[at..at + 4].try_into().unwrap());
-    let trailer: Vec<u32> = (0..16).map(|i| word(file.len() - TRAILER + 4 * i)).collect();
-    let (n, memory, links, count) = (trailer[1] as u64, trailer[2] as u64, trailer[3] as u64, trailer[4] as u64);
-    let length = 4 * (memory + links + count) + TRAILER as u64;
-    let in_limits = (MIN_MEMORY as u64..=MAX_MEMORY as u64).contains(&memory);
-    if trailer[15] as u64 != length || length > file.len() as u64 || !in_limits || trailer[6] > 1 || trailer[14] > 1 {
-        return Err(40);
-    }
-    let first = file.len() - length as usize;
-    let list = |from: u64, k: u64| -> Vec<u32> { (from..from + k).map(|i| word(first + 4 * i as usize)).collect() };
-    let addresses = list(memory + links, count);
     let known: Vec<u32> = (0..table.fresh_count()).map(|i| table.fresh(i)).collect();
-    if trailer[0] != build || n != table.size() as u64 || addresses != known {
+    let same_program = frozen.trailer[0] == build && frozen.trailer[1] as usize == table.size();
+    if !same_program || frozen.addresses != known {
         return Err(41);
     }
-    let mut s = State {
-        ia: trailer[13],
-        flag: trailer[14] == 1,
-        pc: trailer[5],
-        waiting: trailer[6] == 1,
-        links: list(memory, links),
-        ..State::default()
-    };
-    s.regs[1..].copy_from_slice(&trailer[7..13]);
-    let words = list(0, memory);
-    if !check_state(t, memory as usize, &s) || known.iter().any(|a| words[*a as usize / 4] != 0) {
+    let words = &frozen.memory;
+    if !check_state(t, words.len(), &s) || known.iter().any(|a| words[*a as usize / 4] != 0) {
         return Err(42);
     }
     if fresh.len() != known.len() {
         return Err(43);
     }
-    if m.len() as u64 != memory {
+    if m.len() != words.len() {
         return Err(44);
     }
-    m.copy_from_slice(&words);
+    m.copy_from_slice(words);
     for (a, w) in known.iter().zip(fresh) {
         m[*a as usize / 4] = *w;
     }

@@ -2,7 +2,7 @@
 
 use std::hint::black_box;
 use torzimlak::sys;
-use torzimlak_bench::state::{self, COUNT, FLAG, LINKS, PLACE, WAITING, WORDS};
+use torzimlak_bench::state::{self, COUNT, FLAG, LINKS, PLACE, RA_LOW, WAITING, WORDS};
 use torzimlak_bench::tables::{filled, Full};
 use torzimlak_bench::used;
 use torzimlak_plain::{machine, snapshot};
@@ -42,8 +42,9 @@ impl Machine {
         let mut state = state::state(if size.links == 0 { 0 } else { table.inside }, &links);
         state[..FLAG].fill(7);
         state[FLAG] = 1;
+        state[RA_LOW..].copy_from_slice(&[0x5555_5555, 0xbfd5_5555, 1]);
         let memory: Vec<u32> = (0..size.words as u32).map(|i| i.wrapping_mul(2_654_435_761)).collect();
-        let length = 4 * (size.words + size.links + FRESH.len()) + 64;
+        let length = 4 * (size.words + size.links + FRESH.len()) + 76;
         let mut machine = Machine {
             plain: state::plain(&state),
             table,
@@ -65,6 +66,7 @@ impl Machine {
         FRESH_AT.iter().for_each(|&at| words[at] = 0);
         words.extend(&s[LINKS..LINKS + s[COUNT] as usize]);
         words.extend(FRESH_AT.map(|at| 4 * at as u32));
+        words.extend(&s[RA_LOW..]);
         words.extend([BUILD, t[0], self.memory.len() as u32, s[COUNT], 2, s[PLACE], s[WAITING]]);
         words.extend(&s[..=FLAG]);
         words.push(self.room.len() as u32);

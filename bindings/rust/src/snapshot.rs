@@ -3,11 +3,12 @@
 use crate::sys::{self, MAX_MEMORY, MIN_MEMORY};
 use crate::{Machine, Refusal, Returned, State, Table};
 
-/// The trailer's words, of which the third counts those of memory.
+/// The bytes from the build number to the end of a file, which are the last 16 words of a trailer of either kind; the third of these words
+/// counts those of memory.
 const TRAILER: usize = 4 * 16;
 const MEMORY: usize = 4 * 2;
 
-/// A frozen machine: a file's bytes, of which any may be given.
+/// A frozen machine: a file's bytes, of which any may be given. Files of before there were reals wake too, with RA +0 and its flag off.
 ///
 /// ```
 /// use torzimlak::{Machine, Refusal, Snapshot, Table};

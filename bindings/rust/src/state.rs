@@ -1,13 +1,14 @@
 //! The state beside its memory.
 
-use crate::sys::{COUNT, FLAG, IA, LINKS, PLACE, STATE_WORDS, WAITING, XL};
+use crate::sys::{COUNT, FLAG, IA, LINKS, PLACE, RA_HIGH, RA_LOW, REAL_FLAG, STATE_WORDS, WAITING, XL};
 
 /// The count of registers: XL, XR, XS, WA, WB, WC.
 const REGISTERS: usize = 6;
 
-/// The state beside its memory: registers, IA and its overflow flag, the place, whether it waits, and the links of open calls.
+/// The state beside its memory: registers, IA and RA with their overflow flags, the place, whether it waits, and the links of open calls.
 ///
-/// Two states are equal if no call can tell them apart: what [`State::words`] has behind the links that are open does not count.
+/// Two states are equal if no call can tell them apart: what [`State::words`] has between the links that are open and RA does not count.
+/// RA counts by its bits, so that +0 and -0 differ.
 #[derive(Clone, Debug)]
 pub struct State([u32; STATE_WORDS]);
 
@@ -45,9 +46,49 @@ impl State {
         self.0[IA] as i32
     }
 
-    /// The flag of IA.
+    /// The flag of IA, which IOV and INO test.
     pub fn overflow(&self) -> bool {
         self.0[FLAG] == 1
+    }
+
+    /// The accumulator of reals, a finite number. Only the program sets it: it is +0 at the start.
+    ///
+    /// ```
+    /// # use torzimlak::{Machine, Table};
+    /// let cards = b" SEC
+    ///  SEC
+    ///  SEC
+    /// PRICE DRC 19.99
+    /// RATE$ DRC 0.25
+    /// NONE$ DRC 0.
+    ///  SEC
+    ///  SEC
+    /// START LDR PRICE
+    ///  MLR RATE$
+    ///  DVR NONE$
+    /// STOP$ BRN STOP$
+    ///  SEC
+    ///  ERB 1,STACK FULL
+    ///  SEC
+    /// ERROR BRN ERROR
+    ///  END
+    /// ";
+    /// let table = Table::assemble(cards).unwrap();
+    /// let mut machine = Machine::start(&table, 256, &[], 0).unwrap();
+    /// assert_eq!((machine.state().ra(), machine.state().real_overflow()), (0.0, false));
+    /// machine.run(2).unwrap();
+    /// assert_eq!((machine.state().ra(), machine.state().real_overflow()), (19.99 * 0.25, false));
+    /// // A division by zero is overflow: RA stays, and ROV would take its branch.
+    /// machine.run(1).unwrap();
+    /// assert_eq!((machine.state().ra(), machine.state().real_overflow()), (19.99 * 0.25, true));
+    /// ```
+    pub fn ra(&self) -> f64 {
+        f64::from_bits(u64::from(self.0[RA_LOW]) | u64::from(self.0[RA_HIGH]) << 32)
+    }
+
+    /// The flag of RA, which ROV and RNO test.
+    pub fn real_overflow(&self) -> bool {
+        self.0[REAL_FLAG] == 1
     }
 
     /// The place of the next operation, or of the JSR that waits.
@@ -78,7 +119,7 @@ impl State {
 
 impl PartialEq for State {
     fn eq(&self, other: &State) -> bool {
-        self.0[..self.end()] == other.0[..other.end()]
+        self.0[..self.end()] == other.0[..other.end()] && self.0[RA_LOW..] == other.0[RA_LOW..]
     }
 }
 

@@ -9,7 +9,7 @@
 pub const XL: usize = 0;
 /// IA: 32 bits, signed.
 pub const IA: usize = 6;
-/// The overflow flag: 0 or 1.
+/// The overflow flag of IA: 0 or 1.
 pub const FLAG: usize = 7;
 /// The place.
 pub const PLACE: usize = 8;
@@ -19,8 +19,14 @@ pub const WAITING: usize = 9;
 pub const COUNT: usize = 10;
 /// The first of 256 links, oldest first.
 pub const LINKS: usize = 11;
+/// RA's low word: the low 32 bits of a float.
+pub const RA_LOW: usize = 267;
+/// RA's high word.
+pub const RA_HIGH: usize = 268;
+/// The overflow flag of RA: 0 or 1.
+pub const REAL_FLAG: usize = 269;
 /// The words of a lent state.
-pub const STATE_WORDS: usize = 267;
+pub const STATE_WORDS: usize = 270;
 /// The fewest words that memory may have.
 pub const MIN_MEMORY: usize = 256;
 /// The most words that memory may have.
@@ -30,7 +36,7 @@ pub const MAX_BUDGET: u32 = 1_000_000;
 /// The words of the longest table.
 pub const TABLE_WORDS: usize = 16_872;
 /// The bytes of the longest file.
-pub const FILE_BYTES: usize = 33_984;
+pub const FILE_BYTES: usize = 33_996;
 
 mod c {
     extern "C" {
@@ -225,6 +231,7 @@ pub fn write(table: &[u32], memory: &[u32], state: &[u32], build: u32, file: &mu
 }
 
 /// The machine at the end of the file, woken in the lent memory and state: 0, or 30, 31 (fewer words are lent than a state has), 40 to 44.
+/// A file of before there were reals is taken too: RA is then +0 and its flag off.
 pub fn restore(table: &[u32], file: &[u8], build: u32, fresh: &[u32], memory: &mut [u32], state: &mut [u32]) -> u32 {
     // SAFETY: as this module says: pointers and lengths are those of live slices.
     unsafe {

@@ -1,56 +1,15 @@
-//! The proved library beside an independent plain implementation, on random and damaged decks, tables, states and files.
+//! The proved library beside an independent plain implementation, on random and damaged decks, tables and states; files.rs has files, reals.rs
+//! and decimals.rs have real arithmetic.
 //! Seeds are fixed, so that each run of the tests is the same.
 
 mod common;
 
-use common::{cases, deck, share, spoil, text, Random};
+use common::lent::{assembles_alike, expect_all, lawful, litter, number, set_real};
+use common::lent::{spoil_state, spoil_table, used_room, ROOM};
+use common::{cases, deck, spoil, text, Random};
 use std::collections::BTreeSet;
-use torzimlak::sys;
-use torzimlak_plain::{assemble, check, host, machine, Table};
-
-const ROOM: usize = 20_000;
-const STATE_WORDS: usize = sys::STATE_WORDS;
-
-/// Words of a state as a careless host lends them: anything from the links' count on, and some words more.
-fn litter(r: &mut Random, words: &mut Vec<u32>) {
-    if words.len() >= STATE_WORDS {
-        let end = sys::LINKS + (words[sys::COUNT] as usize).min(256);
-        words[end..].iter_mut().for_each(|w| *w = r.next() as u32);
-    }
-    words.resize_with(words.len() + r.below(4), || r.next() as u32);
-}
-
-/// Words that are a state no longer, for the most part.
-fn spoil_state(r: &mut Random, words: &mut Vec<u32>) {
-    if r.once_in(4) {
-        words.truncate(r.below(STATE_WORDS));
-        return;
-    }
-    let at = *r.pick(&[sys::FLAG, sys::PLACE, sys::WAITING, sys::COUNT, sys::LINKS, sys::LINKS + 1]);
-    words[at] = *r.pick(&[0, 1, 2, 3, 5, 9, 256, 257, u32::MAX]);
-}
-
-/// A table with one bit changed.
-fn spoil_table(r: &mut Random, t: &[u32]) -> Vec<u32> {
-    let mut t = t.to_vec();
-    let at = r.below(t.len());
-    t[at] ^= 1 << r.below(32);
-    t
-}
-
-/// Room for a state that somebody used before: too little once in six, else enough or a little more.
-fn used_room(r: &mut Random) -> Vec<u32> {
-    let length = if r.once_in(6) { r.below(STATE_WORDS) } else { STATE_WORDS + r.below(4) };
-    (0..length).map(|_| r.next() as u32).collect()
-}
-
-fn lawful(r: &mut Random) -> Vec<u32> {
-    loop {
-        if let Ok(t) = assemble::assemble(&text(&deck(r)), ROOM) {
-            return t;
-        }
-    }
-}
+use torzimlak::sys::{self, STATE_WORDS};
+use torzimlak_plain::{assemble, check, host, Table};
 
 /// A procedure that calls itself, which random decks seldom do often enough for the 257th link.
 const DEEP: &[u8] = b" SEC
@@ -72,35 +31,6 @@ DEEP$ PRC R,0
  END
 ";
 
-/// Each number is met, if all cases were tried.
-fn expect_all(what: &str, seen: &BTreeSet<u32>, due: impl IntoIterator<Item = u32>) {
-    if share() != 1 {
-        return;
-    }
-    for n in due {
-        assert!(seen.contains(&n), "{what}: {n} was never met");
-    }
-}
-
-/// Both assemblers on one text: the same answer, and the room past the table untouched.
-fn assembles_alike(bytes: &[u8], room: usize) -> u32 {
-    let mut lent = vec![0xA5A5_A5A5; room];
-    let got = sys::assemble(bytes, &mut lent);
-    match assemble::assemble(bytes, room) {
-        Ok(t) => {
-            assert_eq!(got, (0, t.len() as u32), "{}", String::from_utf8_lossy(bytes));
-            assert_eq!(&lent[..t.len()], &t[..]);
-            assert!(lent[t.len()..].iter().all(|w| *w == 0xA5A5_A5A5));
-            0
-        }
-        Err((n, l)) => {
-            assert_eq!(got, (n, l as u32), "{}", String::from_utf8_lossy(bytes));
-            assert!(lent.iter().all(|w| *w == 0xA5A5_A5A5), "a refusal changed the room");
-            n
-        }
-    }
-}
-
 #[test]
 fn decks() {
     let mut r = Random::new(1);
@@ -115,15 +45,15 @@ fn decks() {
         if r.once_in(20) {
             bytes.pop();
         }
-        seen.insert(assembles_alike(&bytes, room));
+        seen.insert(number(&assembles_alike(&bytes, room)));
     }
     for n in [1020, 1030] {
         let mut d: Vec<String> = [" SEC"; 5].map(String::from).to_vec();
         d.extend(vec![" NGI".to_string(); n]);
         d.extend(["START BRN START", " SEC", " ERB 1,A", " SEC", " ERB 1,A", " END"].map(String::from));
-        seen.insert(assembles_alike(&text(&d), ROOM));
+        seen.insert(number(&assembles_alike(&text(&d), ROOM)));
     }
-    seen.insert(assembles_alike(&vec![b'*'; 32_769], ROOM));
+    seen.insert(number(&assembles_alike(&vec![b'*'; 32_769], ROOM)));
     expect_all("decks", &seen, 0..=10);
 }
 
@@ -133,7 +63,7 @@ fn bytes_of_any_kind() {
     for i in 0..cases(10_000) {
         let n = r.below(300);
         let bytes: Vec<u8> = (0..n).map(|_| if i % 2 == 0 { r.next() as u8 } else { *r.pick(b" \nSECENDABC12$,=*()+-.") }).collect();
-        assembles_alike(&bytes, 100);
+        drop(assembles_alike(&bytes, 100));
     }
 }
 
@@ -209,6 +139,7 @@ fn runs() {
         for _ in 0..6 {
             if r.once_in(2) {
                 host_writes(&mut r, &mut words, m);
+                set_real(&mut r, &mut words);
             }
             words.truncate(STATE_WORDS);
             litter(&mut r, &mut words);
@@ -270,76 +201,4 @@ fn start_alike(starts: [Start; 2], t: &[u32], memory: &[u32], fresh: &[u32], wor
     });
     assert_eq!(proved, plain);
     proved
-}
-
-/// What a machine's calls on files answered.
-#[derive(Default)]
-struct Seen {
-    checks: BTreeSet<u32>,
-    writes: BTreeSet<u32>,
-    restores: BTreeSet<u32>,
-}
-
-#[test]
-fn states_and_files() {
-    let mut r = Random::new(6);
-    let mut seen = Seen::default();
-    for _ in 0..cases(20_000) {
-        let t = lawful(&mut r);
-        let m = 256 + r.below(40);
-        let mut memory: Vec<u32> = (0..m).map(|_| r.next() as u32).collect();
-        let fresh = vec![7; Table(&t).fresh_count()];
-        let mut s = machine::warm_start(&t, &mut memory, &fresh, 1).unwrap();
-        machine::run(&t, &mut memory, &mut s, r.below(60) as u32);
-        let mut words = host::words(&s).to_vec();
-        litter(&mut r, &mut words);
-        if r.once_in(3) {
-            spoil_state(&mut r, &mut words);
-        }
-        let table = if r.once_in(30) { spoil_table(&mut r, &t) } else { t };
-        let due = host::check_state(&table, m, &words);
-        assert_eq!(sys::check_state(&table, m, &words), due, "{words:?}");
-        seen.checks.insert(due);
-        let room = if r.once_in(10) { r.below(1400) } else { 4000 };
-        let (mut file, mut plain) = (vec![0xEE; room], vec![0xEE; room]);
-        let due = host::write(&table, &memory, &words, 77, &mut plain);
-        assert_eq!(sys::write(&table, &memory, &words, 77, &mut file), due);
-        assert_eq!(file, plain);
-        seen.writes.insert(due.0);
-        if due.0 == 0 {
-            file.truncate(due.1 as usize);
-            seen.restores.insert(restores_alike(&mut r, &table, file));
-        }
-    }
-    expect_all("checks", &seen.checks, [0, 30, 31]);
-    expect_all("writes", &seen.writes, [0, 30, 31, 45]);
-    expect_all("restores", &seen.restores, [0, 30, 31, 40, 41, 42, 43, 44]);
-}
-
-/// Both restores of a file that is damaged for the most part: the same answer, and the same words left.
-fn restores_alike(r: &mut Random, t: &[u32], mut file: Vec<u8>) -> u32 {
-    let m = u32::from_le_bytes(file[file.len() - 56..file.len() - 52].try_into().unwrap()) as usize;
-    for _ in 0..r.below(3) {
-        let n = file.len();
-        match r.below(7) {
-            0 => file.truncate(r.below(n + 1)),
-            1 => drop(file.splice(0..0, [1, 2, 3])),
-            2 => file.push(0),
-            3 if n >= 64 => file[n - 64 + r.below(64)] ^= 1 << r.below(8),
-            4 if n > 0 => file[r.below(n)] ^= 1 << r.below(8),
-            5 if n > 120 => file[n - 120 + r.below(56)] = 0,
-            _ => {}
-        }
-    }
-    let t = if r.once_in(30) { spoil_table(r, t) } else { t.to_vec() };
-    let build = if r.once_in(12) { 78 } else { 77 };
-    let count = (Table(&t).fresh_count() as i64 + [0, 0, 0, 0, 1][r.below(5)]).min(40);
-    let fresh: Vec<u32> = (0..count).map(|_| r.next() as u32).collect();
-    let mut memory = vec![5; m + r.once_in(10) as usize];
-    let mut words = used_room(r);
-    let (mut own, mut plain) = (memory.clone(), words.clone());
-    let due = host::restore(&t, &file, build, &fresh, &mut own, &mut plain);
-    assert_eq!(sys::restore(&t, &file, build, &fresh, &mut memory, &mut words), due);
-    assert_eq!((memory, words), (own, plain));
-    due
 }

@@ -35,10 +35,12 @@ fn token(word: u32) -> String {
     shown(&machine)
 }
 
-/// What discount.min shows for a customer of this class.
-fn price(class: u32) -> String {
-    let table = table("discount");
-    let mut machine = Machine::start(&table, 256, &[], class).unwrap();
+/// What discount.min shows for a customer of this class and a price, which the host writes where it stands: in the program's first two
+/// working words.
+fn discounted(table: &Table, class: u32, price: f64) -> String {
+    let mut machine = Machine::start(table, 256, &[], class).unwrap();
+    let at = table.words()[1] as usize;
+    machine.memory_mut()[at..at + 2].copy_from_slice(&[price.to_bits() as u32, (price.to_bits() >> 32) as u32]);
     assert_eq!(machine.run(BUDGET).unwrap().ending, Ending::Waiting);
     shown(&machine)
 }
@@ -53,10 +55,26 @@ fn basket() {
     assert_eq!(first_answer("basket"), (1999 * 2 + 450 + 5 * 12).to_string());
 }
 
+/// The classes, and the percent that each one pays.
+const CLASSES: [(u32, u64); 6] = [(0, 100), (1, 95), (2, 90), (3, 75), (4, 100), (u32::MAX, 100)];
+
+/// A price less its rate is the nearest cent, as whole numbers give it; where two are as near, either may be.
 #[test]
 fn discount() {
-    for (class, left) in [(0, 100), (1, 95), (2, 90), (3, 75), (4, 100), (u32::MAX, 100)] {
-        assert_eq!(price(class), (200 * left).to_string(), "class {class}");
+    assert_eq!(first_answer("discount"), "199.97");
+    let table = table("discount");
+    for cents in (0..40_000).step_by(37).chain([1, 2, 99, 100, 101, 19997, 2_147_483_646, 2_147_483_647]) {
+        for (class, percent) in CLASSES {
+            let (due, rest) = ((cents * percent + 50) / 100, cents * percent % 100);
+            if rest != 50 {
+                let got = discounted(&table, class, cents as f64 / 100.0);
+                assert_eq!(got, format!("{}.{:02}", due / 100, due % 100), "{cents} cents, class {class}");
+            }
+        }
+    }
+    // the last ones are more cents than IA can have, by their price or by rounding
+    for price in [f64::INFINITY, f64::NAN, -0.01, -1e308, f64::MAX, 1e300, 21474836.48, 21474836.476] {
+        assert_eq!(discounted(&table, 0, price), "NO PRICE", "{price}");
     }
 }
 

@@ -2,6 +2,7 @@
 
 use std::collections::BTreeMap;
 use torzimlak::{sys, Ending, Machine, Table};
+use torzimlak_plain::host;
 
 /// The header's numbers, by their names without the front.
 fn numbers() -> BTreeMap<String, usize> {
@@ -34,6 +35,9 @@ fn numbers_are_the_same() {
         ("WAITING", sys::WAITING),
         ("COUNT", sys::COUNT),
         ("LINKS", sys::LINKS),
+        ("RA_LOW", sys::RA_LOW),
+        ("RA_HIGH", sys::RA_HIGH),
+        ("REAL_FLAG", sys::REAL_FLAG),
         ("STATE_WORDS", sys::STATE_WORDS),
         ("MIN_MEMORY", sys::MIN_MEMORY),
         ("MAX_MEMORY", sys::MAX_MEMORY),
@@ -42,6 +46,8 @@ fn numbers_are_the_same() {
         ("FILE_BYTES", sys::FILE_BYTES),
     ];
     assert_eq!(header, own.into_iter().map(|(name, n)| (name.to_string(), n)).collect());
+    assert_eq!((host::RA_LOW, host::RA_HIGH), (sys::RA_LOW, sys::RA_HIGH));
+    assert_eq!((host::REAL_FLAG, host::STATE_WORDS), (sys::REAL_FLAG, sys::STATE_WORDS));
 }
 
 /// A machine with all the memory, links and fresh words that there may be has the longest file, and wakes from it.

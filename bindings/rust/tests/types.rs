@@ -4,7 +4,7 @@ mod common;
 
 use common::{cases, deck, spoil, text, Random};
 use std::collections::BTreeSet;
-use torzimlak::sys::{COUNT, LINKS, MAX_MEMORY, PLACE, STATE_WORDS};
+use torzimlak::sys::{COUNT, LINKS, MAX_MEMORY, PLACE, RA_HIGH, RA_LOW, REAL_FLAG, STATE_WORDS};
 use torzimlak::{Ending, Machine, Refusal, Resumed, Returned, Snapshot, Table};
 use torzimlak_plain::{assemble, machine, snapshot};
 
@@ -16,6 +16,7 @@ fn same(machine: &Machine, memory: &[u32], plain: &machine::State) {
     let state = machine.state();
     assert_eq!(state.registers(), plain.regs[1..]);
     assert_eq!((state.ia() as u32, state.overflow()), (plain.ia, plain.flag));
+    assert_eq!((state.ra().to_bits(), state.real_overflow()), (plain.ra, plain.real_flag));
     assert_eq!((state.place(), state.waiting()), (plain.pc, plain.waiting));
     assert_eq!(state.links(), plain.links);
     assert_eq!(machine.memory(), memory);
@@ -179,7 +180,7 @@ fn hosts_write_between_runs() {
     }
 }
 
-/// Machines are equal if no call can tell them apart: links from the count on do not count, all else does.
+/// Machines are equal if no call can tell them apart: links from the count on do not count, all else does, RA by its bits.
 #[test]
 fn equal_machines() {
     let table = Table::assemble(TWO_CALLS).unwrap();
@@ -192,18 +193,45 @@ fn equal_machines() {
         let mut other = words;
         other[at] ^= 1;
         match of(other) {
-            Ok(other) => assert_eq!(other == machine, at > LINKS, "word {at}"),
+            Ok(other) => assert_eq!(other == machine, (LINKS + 1..RA_LOW).contains(&at), "word {at}"),
             Err(refusal) => assert!(refusal == Refusal::BadState && (PLACE..LINKS).contains(&at), "word {at}"),
         }
     }
     let mut garbage = words;
-    garbage[LINKS + 1..].fill(u32::MAX);
+    garbage[LINKS + 1..RA_LOW].fill(u32::MAX);
     let mut other = of(garbage).unwrap();
     assert_eq!(other, machine);
     assert_eq!((other.run(5), other.freeze(BUILD)), (machine.clone().run(5), machine.freeze(BUILD)));
     let mut other = machine.clone();
     other.memory_mut()[255] ^= 1;
     assert_ne!(other, machine);
+}
+
+/// RA is any finite number, -0 too, and comes back from a file bit for bit; no other RA and no other flag makes a machine.
+#[test]
+fn machines_hold_finite_reals() {
+    let table = Table::assemble(CARDS).unwrap();
+    let started = Machine::start(&table, 256, &[1], 0).unwrap();
+    assert_eq!((started.state().ra().to_bits(), started.state().real_overflow()), (0, false));
+    let with = |x: f64, flag: u32| {
+        let mut words = *started.state().words();
+        (words[RA_LOW], words[RA_HIGH]) = (x.to_bits() as u32, (x.to_bits() >> 32) as u32);
+        words[REAL_FLAG] = flag;
+        Machine::from_parts(&table, started.memory().to_vec(), words)
+    };
+    for x in [-0.0, 0.1, f64::MAX, f64::MIN, f64::MIN_POSITIVE, -f64::from_bits(1)] {
+        for flag in [0, 1] {
+            let machine = with(x, flag).unwrap();
+            let state = machine.state();
+            assert_eq!((state.ra().to_bits(), state.real_overflow()), (x.to_bits(), flag == 1));
+            assert_eq!(machine.freeze(BUILD).wake(&table, BUILD, &[1]).unwrap(), machine);
+            assert_ne!(machine, started);
+        }
+        assert_eq!(with(x, 2), Err(Refusal::BadState));
+    }
+    for x in [f64::INFINITY, f64::NEG_INFINITY, f64::NAN] {
+        assert_eq!(with(x, 0), Err(Refusal::BadState));
+    }
 }
 
 /// The file of a machine is the same whatever its fresh words hold, and a woken machine has the new ones.

@@ -123,7 +123,7 @@ fn text_words(s: &[u8]) -> u32
 // How many words a card of sections 2 and 3 defines.
 pub fn word_count(c: Card, s: &[u8]) -> u32
     requires { ⌜ length (now s) ≤ maxBytes ⌝ }
-    ensures { λ r. ⌜ (r ≡ Cards.wordCount (cardView c (now (s .entry)))) × (r ≤ length (now (s .entry)) + 1) ⌝ }
+    ensures { λ r. ⌜ (r ≡ Cards.wordCount (cardView c (now (s .entry)))) × (r ≤ length (now (s .entry)) + 2) ⌝ }
 {
     if !of_words(c) {
         return 0;
@@ -131,6 +131,9 @@ pub fn word_count(c: Card, s: &[u8]) -> u32
     let o = c.operation;
     if is_one_word(o) {
         return 1;
+    }
+    if is_assembly(o, Assembly::DRC) {
+        return 2;
     }
     if !is_assembly(o, Assembly::DTC) {
         return 0;

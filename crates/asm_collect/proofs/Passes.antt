@@ -124,7 +124,7 @@ module _ (s xs ys : List ℕ) (n m i e : ℕ) (k j : Counts) (r : Reader) (c : C
 
   counted-card : Counted i r → Counted (e + 1) (past c)
   unfolding cardOf
-  counted-card w = rw (card, ← bytes) (counted-past i (cardOf r (lineAt s i e)) w)
+  counted-card w = rw (card, ← bytes) (counted-past i (cardOf r (lineAt s i e)) refl w)
 
   -- END is the last card
   pub ends-card : isAssembly END (c .operation) ≡ true → length s ≤ maxBytes → CollectedOf s ys (collectedIn m j)

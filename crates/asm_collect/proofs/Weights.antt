@@ -9,13 +9,11 @@ use borrow.Author.Tests.{eqb-true}
 use lib.Dec.{eqb, leb}
 use lib.ListN.{length, length-take, take}
 use Rattle.base.specs.Test.{_and_, _or_, if}
-use Rattle.words.specs.Words.{textWords}
 use Rattle.language.specs.Text.{isEmpty, labelEnd, labelOf, symbolOf}
-use Rattle.language.specs.Form.{quoted}
-use Rattle.language.specs.Operation.{DTC, isAssembly, isSkipped, operationOf}
+use Rattle.language.specs.Operation.{isSkipped, operationOf}
 use Rattle.language.specs.Card.{Card, Reader, cardOf, holdsPlace, inSection, isExternal, isOneWord, ofWords, one, wordCount}
 use Rattle.language.specs.Image.{isBelow, isFresh}
-use Rattle.asm_cards.proofs.Counting.{quoted-le, text-words-length}
+use Rattle.asm_cards.proofs.Counting.{card-own, words-half}
 
 one-le : (b : Bool) → one b ≤ 1
 unfolding if
@@ -50,29 +48,19 @@ module _ (r : Reader) where
       go false = refl
 
 -- a line of a byte counts at most one place, fresh word and EXP, and its words
-words-le : (c : Card) → 1 ≤ length (c .line) → 2 * wordCount c ≤ length (c .line) + 1
-unfolding wordCount if
-words-le c h = go (ofWords c) (isOneWord (c .operation)) (isAssembly DTC (c .operation))
-  where
-    go : (a b d : Bool) → 2 * if a (if b 1 (if d (length (textWords (quoted (c .line)))) 0)) 0 ≤ length (c .line) + 1
-    go true true d = omega arith
-    go true false true = omega (arith, text-words-length (quoted (c .line)), quoted-le (c .line))
-    go true false false = omega arith
-    go false b d = omega arith
-
 pub record Weights (c : Card) : Type 0 where
   pub place-le : 2 * one (holdsPlace c) ≤ length (c .line) + 1
   pub fresh-le : 2 * one (isFresh c) ≤ length (c .line) + 1
   pub external-le : 2 * one (isExternal c) ≤ length (c .line) + 1
   pub word-le : 2 * wordCount c ≤ length (c .line) + 1
 
-full : (c : Card) → 1 ≤ length (c .line) → Weights c
-full c h =
+full : (c : Card) → c .operation ≡ operationOf (c .line) → 1 ≤ length (c .line) → Weights c
+full c own h =
     record {
       place-le = omega (arith, one-le (holdsPlace c));
       fresh-le = omega (arith, one-le (isFresh c));
       external-le = omega (arith, one-le (isExternal c));
-      word-le = words-le c h;
+      word-le = words-half c own h;
     }
 
 line-full : (r : Reader) (b : ℕ) (bs : List ℕ) → 1 ≤ length (cardOf r (b ∷ bs) .line)
@@ -87,7 +75,7 @@ weights r [] =
       external-le = omega (arith, empty-external r);
       word-le = omega (arith, empty-words r);
     }
-weights r (b ∷ bs) = full (cardOf r (b ∷ bs)) (line-full r b bs)
+weights r (b ∷ bs) = full (cardOf r (b ∷ bs)) (card-own (cardOf r (b ∷ bs)) r (b ∷ bs) refl) (line-full r b bs)
 
 -- the places below a section are among all; a card is of one section
 pub below-le : (k : ℕ) (c : Card) → one (isBelow k c) ≤ one (holdsPlace c)

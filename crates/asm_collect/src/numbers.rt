@@ -39,7 +39,7 @@ pub struct Counts {
 // The words of a card of the section that `opened` counts.
 fn words_in(c: Card, s: &[u8], opened: u32) -> u32
     requires { ⌜ length (now s) ≤ maxBytes ⌝ }
-    ensures { λ r. ⌜ (r ≡ if (eqb (c .spot .opened) opened) (Cards.wordCount (cardView c (now (s .entry)))) 0) × (r ≤ length (now (s .entry)) + 1) ⌝ }
+    ensures { λ r. ⌜ (r ≡ if (eqb (c .spot .opened) opened) (Cards.wordCount (cardView c (now (s .entry)))) 0) × (r ≤ length (now (s .entry)) + 2) ⌝ }
 {
     if c.spot.opened != opened {
         return 0;

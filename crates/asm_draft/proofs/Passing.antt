@@ -16,7 +16,7 @@ use Rattle.language.proofs.Places.{behind}
 use Rattle.asm_reader.specs.Line.{lineEnd}
 use Rattle.asm_reader.proofs.Laws.{walk-line}
 use Rattle.asm_cards.specs.Reading.{Counted}
-use Rattle.asm_cards.proofs.Counting.{counted-more, counted-past, counted-start}
+use Rattle.asm_cards.proofs.Counting.{card-own, counted-more, counted-past, counted-start}
 use Rattle.asm_draft.specs.Written.{Written}
 use Rattle.asm_draft.proofs.Storing.{Filling, begun, filled, put-more, room}
 
@@ -77,7 +77,7 @@ module _ (f : Card → List ℕ) (text old : List ℕ) (first : ℕ) (out : List
           record {
             i-le = omega arith;
             enough = v .enough;
-            counted = rw er (subst (λ (j : ℕ). Counted j (past k)) m (counted-past i k n));
+            counted = rw er (subst (λ (j : ℕ). Counted j (past k)) m (counted-past i k (card-own k r line ek) n));
             so-far = rw er a;
           }
 

@@ -15,7 +15,7 @@ use Rattle.supplied.specs.declared.Supplied.{Supplied}
 use Rattle.supplied.specs.declared.Supplied.the-variants.{Value, Absent}
 use Rattle.language.specs.Text.{Parsed, parsed, unparsed}
 use Rattle.language.specs.Operation.{formatsOf}
-use Rattle.language.specs.Form.{Form, constant, difference, falling, formless, indexed, indirect, literal, multiple, named, omitted, plain, procedureType, register, rising, signed, star, sum, writtenForms}
+use Rattle.language.specs.Form.{Form, constant, difference, falling, formless, indexed, indirect, literal, multiple, named, omitted, plain, procedureType, real, register, rising, signed, star, sum, writtenForms}
 use Rattle.language.specs.Card.{Card}
 use Rattle.language.specs.Symbol as Symbols
 use Rattle.language.specs.Symbol.{Meaning, Sort, Symbol, addressOf, carries, externalOf, fieldsNamed, firstPlace, globalMeaning, hasSort, isSort, lacking, meaning, meaningBy, meaningIn, placeOf, placedBy, sortOfPlace, sortless, undefined, valueOf}
@@ -262,6 +262,7 @@ module _ (all : List Symbol) (fit : PlacesFit all) (c : Card) where
   resolved-fit f omitted = λ e. omega arith
   resolved-fit f star =
       supplied-fit (suppliedOf (c .line at 0) (c .line at 1) (c .line at 2) (c .line at 3) (c .line at 4))
+  resolved-fit f real = λ e. omega arith
   resolved-fit f (plain (constant n)) = value-fit _ _
   resolved-fit f (plain (named k)) = symbol-by f (c .spot .line) (meaning all k) (meaning-fit all fit k)
   resolved-fit f (register r) = λ e. omega arith

@@ -80,7 +80,7 @@ entry-is all c r os i number third one two en ei f g et =
     )
 
 -- an operation that has no row, and one that has
-pub entry-unread : (o : Operation) (n : ℕ) → n ≡ codeOf o → (n ≡ 16 → ⊥) → (all : List Symbol) (c : Card) → unreadEntry ≡ entryBy o all c
+pub entry-unread : (o : Operation) (n : ℕ) → n ≡ codeOf o → (n ≡ 17 → ⊥) → (all : List Symbol) (c : Card) → unreadEntry ≡ entryBy o all c
 unfolding codeOf
 entry-unread empty n e h all c = refl
 entry-unread malformed n e h all c = refl
@@ -88,7 +88,7 @@ entry-unread unknown n e h all c = refl
 entry-unread (assembles a) n e h all c = refl
 entry-unread (operates i) n e h all c = absurd (h e)
 
-pub entry-row : (o : Operation) (n : ℕ) → n ≡ codeOf o → n ≡ 16 → (all : List Symbol) (c : Card)
+pub entry-row : (o : Operation) (n : ℕ) → n ≡ codeOf o → n ≡ 17 → (all : List Symbol) (c : Card)
     → rowEntry all c (rowOf o) (withoutType (besideOf (rowOf o .class)) (outcomes all c)) ≡ entryBy o all c
 unfolding codeOf rowOf
 entry-row empty n e h all c = absurd (omega arith)

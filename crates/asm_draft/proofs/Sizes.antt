@@ -8,16 +8,14 @@ use mathlib.Core.List.{List, [], _∷_}
 use lib.Dec.{eqb, leb}
 use lib.ListN.{length, length-append}
 use Rattle.base.specs.Test.{_and_, _or_, if}
-use Rattle.words.specs.Words.{textWords}
 use Rattle.language.specs.Text.{isEmpty, lines, newline, push}
-use Rattle.language.specs.Form.{quoted}
-use Rattle.language.specs.Operation.{DTC, isAssembly, isSkipped, operationOf}
+use Rattle.language.specs.Operation.{isSkipped, operationOf}
 use Rattle.language.specs.Card.{Card, Reader, cardOf, cardsOf, holdsPlace, inSection, isExternal, isOneWord, ofWords, one, past, start, walk, wordCount}
 use Rattle.language.specs.Symbol.{Symbol}
 use Rattle.language.specs.Image.{count, countsIn, entryIn, flat, freshIn, isFresh, startsIn}
 use Rattle.language.proofs.Places.{behind, behind-cases}
 use Rattle.language.proofs.Lengths.{counts-length, entries-length, fresh-length, starts-length}
-use Rattle.asm_cards.proofs.Counting.{quoted-le, text-words-length}
+use Rattle.asm_cards.proofs.Counting.{words-half}
 
 -- the bytes of some lines, with those that end them
 abbrev total : List (List ℕ) → ℕ
@@ -95,13 +93,7 @@ words-each r [] = go (ofWords (cardOf r []))
     go : (a : Bool) → 2 * if a 0 0 ≤ 1
     go true = omega arith
     go false = omega arith
-words-each r (x ∷ s) = go (ofWords (cardOf r (x ∷ s))) (isOneWord (operationOf (x ∷ s))) (isAssembly DTC (operationOf (x ∷ s)))
-  where
-    go : (a b d : Bool) → 2 * if a (if b 1 (if d (length (textWords (quoted (x ∷ s)))) 0)) 0 ≤ suc (length s) + 1
-    go true true d = omega arith
-    go true false true = omega (arith, text-words-length (quoted (x ∷ s)), quoted-le (x ∷ s))
-    go true false false = omega arith
-    go false b d = omega arith
+words-each r (x ∷ s) = words-half (cardOf r (x ∷ s)) refl (omega arith)
 
 -- Parts.
 

@@ -1,15 +1,16 @@
--- The words of a text, from a character on.
+-- The words of a text, from a character on, and those of a real number.
 -- Assumes nothing.
 use Prim.Native.Nat.{ℕ, _+_, _<_, _≤_}
 use native.Mathlib.Omega.{arith}
-use mathlib.Core.Path.{_≡_, refl, _∙_}
+use mathlib.Core.Path.{_≡_, refl, ap, subst, _∙_}
 use mathlib.Core.List.{List, [], _∷_, _++_}
 use lib.ListN.{drop, drop-of-length-le, length, length-drop}
 use lib.Seq.{drop-drop, getD-drop}
 use Rattle.base.specs.Lists.{_at_}
 use Rattle.words.specs.Words.{textWords, wordOf}
+use Rattle.language.specs.Decimal.{Decimal, decimalOf, realWords, unwritten, written}
 use Rattle.asm_draft.specs.Written.{Written}
-use Rattle.asm_draft.proofs.Storing.{Filling, filled, put-more, room}
+use Rattle.asm_draft.proofs.Storing.{Filling, both, filled, put-more, room}
 
 text-first : (l : List ℕ) → 0 < length l → textWords l ≡ wordOf (l at 0) (l at 1) (l at 2) (l at 3) ∷ textWords (drop 4 l)
 unfolding textWords
@@ -31,6 +32,17 @@ text-at t i h =
 
 pub of-text : {old new : List ℕ} {w v : ℕ} (t q : List ℕ) → t ≡ q → Written old w (textWords t) new v → Written old w (textWords q) new v
 of-text t q e p = rw (← e) p
+
+-- the two words of a real number, one behind the other
+pair-of : (d : Decimal) (ws : List ℕ) → ws ≡ realWords d → ws at 0 ∷ ws at 1 ∷ [] ≡ realWords d
+pair-of (written s n k) ws e = rw e refl
+pair-of unwritten ws e = rw e refl
+
+pub two-words : {a b d : List ℕ} {w v u : ℕ} (ws l f : List ℕ) → ws ≡ realWords (decimalOf l) → l ≡ f → Written a w (ws at 0 ∷ []) b v
+    → Written b v (ws at 1 ∷ []) d u → Written a w (realWords (decimalOf f)) d u
+two-words {a} {b} {d} {w} {v} {u} ws l f e k p q =
+    subst (λ (x : List ℕ). Written a w x d u) (pair-of (decimalOf l) ws e ∙ ap (λ (x : List ℕ). realWords (decimalOf x)) k)
+    (both (ws at 0 ∷ []) (ws at 1 ∷ []) p q)
 
 -- a text of which i characters stand
 pub record Spelling (t old : List ℕ) (start : ℕ) (out : List ℕ) (w i : ℕ) : Type 0 where

@@ -18,6 +18,7 @@ use crate::operands::third_of;
 use crate::operands::type_count;
 use crate::store::put;
 use crate::store::put_eight;
+use crate::texts::put_real;
 use crate::texts::put_text;
 use asm_cards::holds_place;
 use asm_cards::is_external;
@@ -112,6 +113,9 @@ fn put_words(
     let o = c.operation;
     if is_one_word(o) {
         return put(draft, end, value_at(list, c, s, syms, n, 0));
+    }
+    if is_assembly(o, Assembly::DRC) {
+        return put_real(s, draft, end);
     }
     if !is_assembly(o, Assembly::DTC) {
         return end;

@@ -12,7 +12,8 @@ use lib.Seq.{drop-cons}
 use Rattle.base.specs.Test.{_and_, if}
 use Rattle.base.specs.Lists.{_at_}
 use Rattle.language.specs.Text.{byte, parts, push, span}
-use Rattle.language.specs.Form.{Form, allFormed, difference, falling, formOf, formless, indexed, indirect, isFormless, literal, multiple, omitted, plain, procedureType, register, rising, signed, star, sum, textsIn}
+use Rattle.language.specs.Decimal.{decimalOf, unwritten, written}
+use Rattle.language.specs.Form.{Form, allFormed, difference, falling, formBy, formOf, formless, indexed, indirect, isFormless, literal, multiple, omitted, plain, procedureType, real, register, rising, signed, star, sum, textsIn}
 use Rattle.language.proofs.Laws.{before, parts-first}
 use Rattle.asm_types.specs.Views.{cutForm}
 use Rattle.asm_text.proofs.Slices.{parts-last, parts-more}
@@ -61,34 +62,46 @@ pub count-out : (d : ℕ) (s : List ℕ) (i : ℕ) → length s ≤ i → length
 unfolding parts
 count-out d s i h = let e : drop i s ≡ [] = drop-of-length-le s {i = i} h in rw e refl
 
--- the form at index k among the parts from a place on, where the first of them ends at e
-abbrev pub formFrom : List ℕ → ℕ → ℕ → Form
-formFrom f i k = getD (map formOf (parts comma (drop i f))) k formless
+-- the form of a text on a DRC card and on another
+pub of-others : (drc : Bool) (s : List ℕ) → drc ≡ false → formOf s ≡ formBy drc s
+of-others drc s h = rw h refl
 
-module _ (f : List ℕ) (i e : ℕ) (q : e ≡ i + span (before comma) (drop i f)) (h : i ≤ length f) where
-  pub first-form : formFrom f i 0 ≡ formOf (take (e - i) (drop i f))
+module _ (drc : Bool) (s : List ℕ) (h : drc ≡ true) where
+  pub no-real : unwritten ≡ decimalOf s → formless ≡ cutForm (formBy drc s)
+  no-real e = rw (h, ← e) refl
+
+  pub of-real : {b : Bool} {n k : ℕ} → written b n k ≡ decimalOf s → real ≡ cutForm (formBy drc s)
+  of-real e = rw (h, ← e) refl
+
+-- the form at index k among the parts from a place on, where the first of them ends at e
+abbrev pub formFrom : Bool → List ℕ → ℕ → ℕ → Form
+formFrom drc f i k = getD (map (formBy drc) (parts comma (drop i f))) k formless
+
+module _ (drc : Bool) (f : List ℕ) (i e : ℕ) (q : e ≡ i + span (before comma) (drop i f)) (h : i ≤ length f) where
+  pub first-form : formFrom drc f i 0 ≡ formBy drc (take (e - i) (drop i f))
   first-form =
       let k : e - i ≡ span (before comma) (drop i f) = omega arith in
       rw (parts-first comma (drop i f), k) refl
 
-  pub next-form : (k : ℕ) → 0 < k → e < length f → formFrom f (e + 1) (k - 1) ≡ formFrom f i k
+  pub next-form : (k : ℕ) → 0 < k → e < length f → formFrom drc f (e + 1) (k - 1) ≡ formFrom drc f i k
   next-form zero z l = absurd (omega arith)
   next-form (suc k) z l =
       let m : suc k - 1 ≡ k = omega arith in
       rw (m, parts-more comma f i e q h l) refl
 
-  pub past-forms : (k : ℕ) → 0 < k → length f ≤ e → formless ≡ formFrom f i k
+  pub past-forms : (k : ℕ) → 0 < k → length f ≤ e → formless ≡ formFrom drc f i k
   past-forms zero z l = absurd (omega arith)
   past-forms (suc k) z l = rw (parts-last comma f i e q h l) refl
 
 -- that all of them have a form
-abbrev pub formedFrom : List ℕ → ℕ → Bool
-formedFrom f i = allFormed (map formOf (parts comma (drop i f)))
+abbrev pub formedFrom : Bool → List ℕ → ℕ → Bool
+formedFrom drc f i = allFormed (map (formBy drc) (parts comma (drop i f)))
 
 cut-formless : (o : Form) → isFormless (cutForm o) ≡ isFormless o
 cut-formless formless = refl
 cut-formless omitted = refl
 cut-formless star = refl
+cut-formless real = refl
 cut-formless (plain v) = refl
 cut-formless (register r) = refl
 cut-formless (literal k) = refl
@@ -103,21 +116,21 @@ cut-formless (difference v w) = refl
 cut-formless (signed b n) = refl
 
 -- the test of the first text, as the code sees its form
-module _ (f : List ℕ) (i e : ℕ) (q : e ≡ i + span (before comma) (drop i f)) (h : i ≤ length f) (o : Form)
-    (x : o ≡ cutForm (formOf (take (e - i) (drop i f)))) where
-  first-formless : isFormless o ≡ isFormless (formOf (take (e - i) (drop i f)))
-  first-formless = ap isFormless x ∙ cut-formless (formOf (take (e - i) (drop i f)))
+module _ (drc : Bool) (f : List ℕ) (i e : ℕ) (q : e ≡ i + span (before comma) (drop i f)) (h : i ≤ length f) (o : Form)
+    (x : o ≡ cutForm (formBy drc (take (e - i) (drop i f)))) where
+  first-formless : isFormless o ≡ isFormless (formBy drc (take (e - i) (drop i f)))
+  first-formless = ap isFormless x ∙ cut-formless (formBy drc (take (e - i) (drop i f)))
 
-  pub formless-text : isFormless o ≡ true → false ≡ formedFrom f i
+  pub formless-text : isFormless o ≡ true → false ≡ formedFrom drc f i
   unfolding _and_
   formless-text t =
       let k : e - i ≡ span (before comma) (drop i f) = omega arith in
       rw (parts-first comma (drop i f), ← k, sym first-formless ∙ t) refl
 
-  pub formed-last : isFormless o ≡ false → length f ≤ e → true ≡ formedFrom f i
+  pub formed-last : isFormless o ≡ false → length f ≤ e → true ≡ formedFrom drc f i
   unfolding _and_
   formed-last t l = rw (parts-last comma f i e q h l, sym first-formless ∙ t) refl
 
-  pub formed-more : isFormless o ≡ false → e < length f → formedFrom f (e + 1) ≡ formedFrom f i
+  pub formed-more : isFormless o ≡ false → e < length f → formedFrom drc f (e + 1) ≡ formedFrom drc f i
   unfolding _and_
   formed-more t l = rw (parts-more comma f i e q h l, sym first-formless ∙ t) refl

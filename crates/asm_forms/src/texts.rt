@@ -6,10 +6,12 @@ ghost use lib.Dec.{eqb, ltb};
 ghost use lib.ListN.{getD, length};
 ghost use Rattle.base.specs.Test.{if};
 ghost use Rattle.language.specs.Text.{byte, inPart, span};
-ghost use Rattle.language.specs.Form.{allFormed, formOf, formless, hasComma, hasRemark, isFormless, textsIn};
+ghost use Rattle.language.specs.Form.{allFormed, formBy, formless, hasComma, hasRemark, isFormless, textsIn};
 ghost use Rattle.asm_types.specs.Views.{cutForm, formView};
 ghost use Rattle.asm_forms.specs.Quotes.{Quotes};
 use crate::operand::form_of;
+use asm_reals::Decimal;
+use asm_reals::decimal_of;
 use asm_text::BLANK;
 use asm_text::COMMA;
 use asm_text::fields_of;
@@ -42,9 +44,23 @@ pub fn text_count(f: &[u8]) -> usize
     n
 }
 
+// The form of an operand's text, on a DRC card (`real`) or on another.
+fn form_by(real: bool, s: &[u8]) -> Form
+    ensures { λ r. ⌜ formView r ≡ cutForm (formBy real (now (s .entry))) ⌝ }
+{
+    if !real {
+        return form_of(s);
+    }
+    let d = decimal_of(s);
+    let Decimal::Written(_, _, _) = d else {
+        return Form::Formless;
+    };
+    Form::Real
+}
+
 // The form of text i of an operand field, formless where there is none.
-pub fn form_at(f: &[u8], i: usize) -> Form
-    ensures { λ r. ⌜ formView r ≡ cutForm (getD (map formOf (textsIn (now (f .entry)))) i formless) ⌝ }
+pub fn form_at(real: bool, f: &[u8], i: usize) -> Form
+    ensures { λ r. ⌜ formView r ≡ cutForm (getD (map (formBy real) (textsIn (now (f .entry)))) i formless) ⌝ }
 {
     if f.len() == 0 {
         return Form::Formless;
@@ -60,7 +76,7 @@ pub fn form_at(f: &[u8], i: usize) -> Form
         k -= 1;
     }
     let e = find_byte(f, from, COMMA);
-    form_of(&f[from..e])
+    form_by(real, &f[from..e])
 }
 
 // A form is none of the forms.
@@ -84,12 +100,13 @@ pub fn is_formless(o: Form) -> bool
         Form::Difference(_) => false,
         Form::Positive(_) => false,
         Form::Negative(_) => false,
+        Form::Real => false,
     }
 }
 
 // Every text of an operand field has a form.
-pub fn all_formed(f: &[u8]) -> bool
-    ensures { λ r. ⌜ r ≡ allFormed (map formOf (textsIn (now (f .entry)))) ⌝ }
+pub fn all_formed(real: bool, f: &[u8]) -> bool
+    ensures { λ r. ⌜ r ≡ allFormed (map (formBy real) (textsIn (now (f .entry)))) ⌝ }
 {
     if f.len() == 0 {
         return true;
@@ -97,7 +114,7 @@ pub fn all_formed(f: &[u8]) -> bool
     let mut from: usize = 0;
     loop {
         let e = find_byte(f, from, COMMA);
-        if is_formless(form_of(&f[from..e])) {
+        if is_formless(form_by(real, &f[from..e])) {
             return false;
         }
         if e == f.len() {

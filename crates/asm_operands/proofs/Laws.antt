@@ -11,7 +11,7 @@ use Rattle.base.specs.Test.{_or_, if}
 use Rattle.ops.specs.Machine.{cfpM}
 use Rattle.ops.specs.Format.{Format}
 use Rattle.language.specs.Card.{Card}
-use Rattle.language.specs.Form.{Form, Term, constant, difference, falling, formless, indexed, indirect, literal, multiple, named, omitted, plain, procedureType, register, rising, signed, star, sum}
+use Rattle.language.specs.Form.{Form, Term, constant, difference, falling, formless, indexed, indirect, literal, multiple, named, omitted, plain, procedureType, real, register, rising, signed, star, sum}
 use Rattle.language.specs.Symbol.{Symbol}
 use Rattle.language.specs.Operand.{Outcome, awaits, displaced, gives, indexedBy, misfits, operandOf, plainBy, resolved, signedWithin, takes, termBy, thenBoth, unnamed, valueWithin}
 use Rattle.asm_types.specs.Views.{cut, cutForm, cutTerm, mostWord}
@@ -34,6 +34,7 @@ unfolding operandOf
 line-card all c f formless = refl
 line-card all c f omitted = refl
 line-card all c f star = refl
+line-card all c f real = refl
 line-card all c f (plain (constant n)) = refl
 line-card all c f (plain (named k)) = refl
 line-card all c f (register r) = refl
@@ -92,6 +93,7 @@ unfolding takes
 cut-takes f formless = refl
 cut-takes f omitted = refl
 cut-takes f star = refl
+cut-takes f real = refl
 cut-takes f (plain (constant n)) = refl
 cut-takes f (plain (named k)) = refl
 cut-takes f (register r) = refl
@@ -111,6 +113,7 @@ module _ (all : List Symbol) (c : Card) (f : Format) (h : f .largest ≤ cfpM) w
   cut-resolved formless = refl
   cut-resolved omitted = refl
   cut-resolved star = refl
+  cut-resolved real = refl
   cut-resolved (plain v) = cut-plain all c f h v
   cut-resolved (register r) = refl
   cut-resolved (literal k) = refl

@@ -22,7 +22,7 @@ use Rattle.language.specs.Card.{Card}
 use Rattle.language.specs.Form.{Form}
 use Rattle.language.specs.Symbol.{Symbol}
 use Rattle.language.specs.Operand.{operandOf}
-use Rattle.language.specs.Operation.{Assembly, DAC, DBC, DIC, DTC, EJC, END, EQU, EXP, GLB, INP, INR, Operation, SEC, TTL, assembles, assemblyRow, empty, formatsOf, malformed, operates, rowFormats, unknown}
+use Rattle.language.specs.Operation.{Assembly, DAC, DBC, DIC, DRC, DTC, EJC, END, EQU, EXP, GLB, INP, INR, Operation, SEC, TTL, assembles, assemblyRow, empty, formatsOf, malformed, operates, rowFormats, unknown}
 use Rattle.asm_types.specs.Views.{cutForm}
 use Rattle.asm_values.specs.Read.{formatOf, hasBit, kindsFrom, largestOf, lastOf}
 use Rattle.asm_operands.specs.LineCard.{lineCard}
@@ -98,6 +98,7 @@ assembly-read GLB = tt
 assembly-read EQU = tt
 assembly-read DAC = tt
 assembly-read DIC = tt
+assembly-read DRC = tt
 assembly-read DBC = tt
 assembly-read DTC = tt
 

@@ -210,6 +210,7 @@ fn takes(format: u32, form: Form) -> bool
         Form::Difference(_) => is_tag(format, EQOP_TAG),
         Form::Positive(_) => is_tag(format, INTEGER_TAG),
         Form::Negative(_) => is_tag(format, INTEGER_TAG),
+        Form::Real => is_tag(format, REAL_TAG),
     }
 }
 
@@ -235,6 +236,7 @@ fn resolved(form: Form, format: u32, line: u32, s: &[u8], syms: &[u64], n: usize
         Form::Difference(p) => terms_by(syms, n, line, true, p),
         Form::Positive(v) => value_within(Machine::CFP_M, v),
         Form::Negative(v) => negative(v),
+        Form::Real => value_of(0),
     }
 }
 

@@ -53,7 +53,7 @@ in-none k (b ∷ bs) h =
     rw (ne-eqb k (byMnemonic b) (λ q. h 0 (omega arith) (sym q))) (in-none k bs (λ i g e. h (suc i) (omega arith) e))
 
 module _ (t : List (List ℕ)) (e : t ≡ map assemblyCells assemblies) (a b c : ℕ) (r : Lookup) (x : AnswersIn t a b c r) where
-  pub assembly-inside : (i : ℕ) → r ≡ found.Row i → i < 13
+  pub assembly-inside : (i : ℕ) → r ≡ found.Row i → i < 14
   assembly-inside i q = rw (← cells-count assemblyCells assemblies t e) (x .row i .0 q .0)
 
   pub assembly-found : (i : ℕ) → r ≡ found.Row i → assembles (assemblyAt i) ≡ assemblyIn (packed a b c) assemblies

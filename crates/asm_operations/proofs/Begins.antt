@@ -30,7 +30,7 @@ unfolding rows begin end if Ok _and_
 all-within = tt
 
 module _ (t : List (List ℕ)) (e : t ≡ map cellsOf rows) (a b c from to : ℕ) (f : from ≡ begin a) (g : to ≡ end from) (h : from ≤ to)
-    (l : to ≤ 89) (r : Lookup) (x : AnswersIn (take (to - from) (drop from t)) a b c r) where
+    (l : to ≤ 106) (r : Lookup) (x : AnswersIn (take (to - from) (drop from t)) a b c r) where
   at-from : (i : ℕ) → from + i < to → getD (take (to - from) (drop from t)) i [] ≡ cellsOf (rowAt (from + i))
   at-from i m = getD-take (to - from) (drop from t) i [] (omega arith) ∙ getD-drop from t i [] ∙ table-row t e (from + i) (omega arith)
 
@@ -40,7 +40,7 @@ module _ (t : List (List ℕ)) (e : t ≡ map cellsOf rows) (a b c from to : ℕ
   before : (i : ℕ) → r ≡ found.Row i → from + i < to
   before i q = omega (arith, x .row i .0 q .0, long-from, h)
 
-  pub inside-from : (i : ℕ) → r ≡ found.Row i → from + i < 89
+  pub inside-from : (i : ℕ) → r ≡ found.Row i → from + i < 106
   inside-from i q = omega (arith, before i q, l)
 
   pub row-from : (i : ℕ) → r ≡ found.Row i → found.Row (from + i) ≡ rowOfLetters a b c

@@ -88,11 +88,11 @@ none-agrees = tt
 
 row-agrees : (i : ℕ) → Ok (agrees (rowFormats (rowAt i)) (cellsOf (rowAt i)))
 unfolding rowAgrees if
-row-agrees i = go (ltb i 89) refl
+row-agrees i = go (ltb i 106) refl
   where
-    go : (b : Bool) → ltb i 89 ≡ b → Ok (agrees (rowFormats (rowAt i)) (cellsOf (rowAt i)))
-    go true q = every-at rowAgrees noRow rows all-agree i (rw rows-count (ltb-true i 89 q))
-    go false q = subst (λ (r : Row). Ok (agrees (rowFormats r) (cellsOf r))) (sym (row-past i (ltb-false i 89 q))) none-agrees
+    go : (b : Bool) → ltb i 106 ≡ b → Ok (agrees (rowFormats (rowAt i)) (cellsOf (rowAt i)))
+    go true q = every-at rowAgrees noRow rows all-agree i (rw rows-count (ltb-true i 106 q))
+    go false q = subst (λ (r : Row). Ok (agrees (rowFormats r) (cellsOf r))) (sym (row-past i (ltb-false i 106 q))) none-agrees
 
 assemblyAgrees : ℕ → Assembly → Bool
 assemblyAgrees n a = agrees (assemblyRow a .formats) (assemblyCells a)
@@ -142,7 +142,7 @@ pub count-by : (o : Operation) → length (formatsOf o) ≡ cardCount (listed o)
 count-by o = counted (formatsOf o) (listed o) (listed-agrees o)
 
 -- the cells by the code: those of an assembly operation, and those of the row of any other
-pub listed-assembly : (o : Operation) (n : ℕ) → n ≡ codeOf o → n < 13 → listed o ≡ assemblyCells (assemblyAt n)
+pub listed-assembly : (o : Operation) (n : ℕ) → n ≡ codeOf o → n < 14 → listed o ≡ assemblyCells (assemblyAt n)
 unfolding codeOf listed
 listed-assembly empty n e h = absurd (omega arith)
 listed-assembly malformed n e h = absurd (omega arith)
@@ -150,7 +150,7 @@ listed-assembly unknown n e h = absurd (omega arith)
 listed-assembly (assembles a) n e h = ap assemblyCells (sym (ap assemblyAt e ∙ at-code a))
 listed-assembly (operates i) n e h = absurd (omega arith)
 
-pub listed-row : (o : Operation) → 13 ≤ codeOf o → listed o ≡ cellsOf (rowOf o)
+pub listed-row : (o : Operation) → 14 ≤ codeOf o → listed o ≡ cellsOf (rowOf o)
 unfolding codeOf listed rowOf
 listed-row empty h = refl
 listed-row malformed h = refl
@@ -159,17 +159,17 @@ listed-row (assembles a) h = absurd (omega (arith, code-below a))
 listed-row (operates i) h = refl
 
 -- the row that holds these cells: in the list of assembly operations, in the operation table, or past its end
-pub row-assembly : (o : Operation) (n : ℕ) → n ≡ codeOf o → n < 13 → (t : List (List ℕ)) → t ≡ map assemblyCells assemblies → getD t n [] ≡ listed o
+pub row-assembly : (o : Operation) (n : ℕ) → n ≡ codeOf o → n < 14 → (t : List (List ℕ)) → t ≡ map assemblyCells assemblies → getD t n [] ≡ listed o
 row-assembly o n q h t e = cells-at assemblyCells assemblies t e DTC n h ∙ sym (listed-assembly o n q h)
 
-module _ (o : Operation) (n : ℕ) (q : n ≡ codeOf o) (g : 13 ≤ n) (k : ℕ) (r : rowAt k ≡ rowOf o) where
+module _ (o : Operation) (n : ℕ) (q : n ≡ codeOf o) (g : 14 ≤ n) (k : ℕ) (r : rowAt k ≡ rowOf o) where
   here : listed o ≡ cellsOf (rowAt k)
   here = listed-row o (rw (← q) g) ∙ ap cellsOf (sym r)
 
-  pub row-operation : (t : List (List ℕ)) → t ≡ map cellsOf rows → k < 89 → getD t k [] ≡ listed o
+  pub row-operation : (t : List (List ℕ)) → t ≡ map cellsOf rows → k < 106 → getD t k [] ≡ listed o
   row-operation t e h = table-row t e k h ∙ sym here
 
-  pub row-nowhere : 89 ≤ k → listed o ≡ cellsOf noRow
+  pub row-nowhere : 106 ≤ k → listed o ≡ cellsOf noRow
   row-nowhere h = here ∙ ap cellsOf (row-past k h)
 
 pub none-format : (i : ℕ) → cardFormat (cellsOf noRow) i ≡ formatWord NONE

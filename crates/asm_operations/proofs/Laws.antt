@@ -27,7 +27,7 @@ has-class k (assembles a) e = sym e
 has-class k (operates i) e = is-code (rowAt i .class) k
 
 -- past the last row
-pub row-past : (i : ℕ) → 89 ≤ i → rowAt i ≡ noRow
+pub row-past : (i : ℕ) → 106 ≤ i → rowAt i ≡ noRow
 row-past i h = List·getD-eq-default rows noRow {n = i} (rw rows-count h)
 
 -- Tests by code and class, in the order in which the functions try them.

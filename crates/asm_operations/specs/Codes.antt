@@ -44,10 +44,10 @@ cardCount cells =
     if (eqb (getD cells 5 0) 0) 0
     (if (isTyped cells) 2 (if (eqb (getD cells 6 0) 0) 1 (if (eqb (getD cells 7 0) 0) 2 3)))
 
--- where the look-up of a row with the first letter a begins, from C on three rows a letter of the alphabet, and seventeen; and where one that begins there
--- ends: twenty rows on, or with the table
+-- where the look-up of a row with the first letter a begins, from C on four rows a letter of the alphabet, and eleven; and where one that begins there
+-- ends: 24 rows on, or with the table
 unfoldable pub begin : ℕ → ℕ
-begin a = if (ltb a 67) 0 (if (ltb 90 a) 0 ((a - 67) * 3 + 17))
+begin a = if (ltb a 67) 0 (if (ltb 90 a) 0 ((a - 67) * 4 + 11))
 
 unfoldable pub end : ℕ → ℕ
-end from = if (ltb 69 from) 89 (from + 20)
+end from = if (ltb 82 from) 106 (from + 24)

@@ -34,11 +34,11 @@ fn assembly_named(a: u8, b: u8, c: u8) -> Operation
 }
 
 // The rows of the operation table with a first letter stand from `begins` on and before `ends` of that: the table is in the order of the alphabet, has more
-// than seventeen rows before C, three and more a letter from there on, and twenty at most from such a row to the last of its letter.
-const WINDOW: usize = 20;
+// than eleven rows before C, four a letter on the average from there on, and 24 at most from such a row to the last of its letter.
+const WINDOW: usize = 24;
 
 fn begins(a: u8) -> usize
-    ensures { λ r. ⌜ (r ≡ begin a) × (r ≤ 86) ⌝ }
+    ensures { λ r. ⌜ (r ≡ begin a) × (r ≤ 103) ⌝ }
 {
     if a < b'C' {
         return 0;
@@ -46,12 +46,12 @@ fn begins(a: u8) -> usize
     if b'Z' < a {
         return 0;
     }
-    ((a - b'C') as usize) * 3 + 17
+    ((a - b'C') as usize) * 4 + 11
 }
 
 fn ends(from: usize) -> usize
-    requires { ⌜ from ≤ 86 ⌝ }
-    ensures { λ r. ⌜ (r ≡ end from) × (from ≤ r) × (r ≤ 89) ⌝ }
+    requires { ⌜ from ≤ 103 ⌝ }
+    ensures { λ r. ⌜ (r ≡ end from) × (from ≤ r) × (r ≤ 106) ⌝ }
 {
     if COUNT - WINDOW < from {
         return COUNT;

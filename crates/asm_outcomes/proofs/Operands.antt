@@ -11,10 +11,9 @@ use lib.Dec.{eqb, ltb}
 use lib.ListN.{drop, drop-of-length-le, getD, length}
 use lib.Seq.{drop-cons}
 use Rattle.base.specs.Test.{_and_}
-use Rattle.base.proofs.Bool.{by-if}
 use Rattle.ops.specs.Format.{Format, NONE, formatWord, noKind}
-use Rattle.language.specs.Operation.{Operation, formatsOf}
-use Rattle.language.specs.Form.{Form, formOf, formless, writtenForms}
+use Rattle.language.specs.Operation.{DRC, formatsOf, isAssembly}
+use Rattle.language.specs.Form.{Form, formBy, formless, writtenForms}
 use Rattle.language.specs.Card.{Card}
 use Rattle.language.specs.Symbol.{Symbol}
 use Rattle.language.specs.Operand.{Outcome, awaits, gives, misfits, missing, operandAt, operandOf, operandsOf, outcomes, unnamed}
@@ -76,7 +75,7 @@ module _ (all : List Symbol) (c : Card) where
           ap missing (format-read (c .operation) i h)
           ∙ sym (past-forms (formatsOf (c .operation)) (writtenForms (c .operation) (c .line)) i h k)
 
-      pub with-form : i < length (writtenForms (c .operation) (c .line)) → (o : Form) → o ≡ cutForm (getD (map formOf (texts (c .line))) i formless)
+      pub with-form : i < length (writtenForms (c .operation) (c .line)) → (o : Form) → o ≡ cutForm (getD (map (formBy (isAssembly DRC (c .operation))) (texts (c .line))) i formless)
           → operandOf all (lineCard (c .spot .line) (c .line)) (formatOf (formatWord format)) o ≡ operandAt (outcomes all c) i
       unfolding outcomes
       with-form k o q =

@@ -5,10 +5,11 @@ ghost use Prim.Native.Nat.{_<_};
 ghost use lib.ListN.{getD, length};
 ghost use Rattle.ops.specs.Ops.{rows, cellsOf};
 ghost use Rattle.language.specs.Text.{fieldOf};
-ghost use Rattle.language.specs.Form.{allFormed, formOf, formless, textsIn};
+ghost use Rattle.language.specs.Operation.{DRC, isAssembly};
+ghost use Rattle.language.specs.Form.{allFormed, formBy, formless, textsIn};
 ghost use Rattle.language.specs.Operand.{operandAt, outcomes, valueIn};
 ghost use Rattle.language.specs.Fault.{allDefined, allFit, allGiven, firstName, formName, formsOf, operandsFormed, termName};
-ghost use Rattle.asm_types.specs.Views.{cardView, cutForm, formView, outcomeView, symbolsIn, termView};
+ghost use Rattle.asm_types.specs.Views.{cardView, cutForm, formView, operationView, outcomeView, symbolsIn, termView};
 ghost use Rattle.asm_symbols.specs.Symbolic.{Symbolic};
 ghost use Rattle.asm_outcomes.specs.Tests.{allBy, testBy};
 use asm_forms::texts::all_formed;
@@ -19,10 +20,13 @@ use asm_operands::operands::outcome;
 use asm_operations::formats::format_at;
 use asm_operations::formats::format_count;
 use asm_operations::formats::has_text;
+use asm_sections::codes::is_assembly;
 use asm_text::fields_of;
+use asm_types::Assembly;
 use asm_types::Card;
 use asm_types::Form;
 use asm_types::Given;
+use asm_types::Operation;
 use asm_types::Outcome;
 use asm_types::Term;
 use asm_values::formats::missing;
@@ -40,24 +44,24 @@ fn field_count(s: &[u8]) -> usize
     text_count(&s[from..to])
 }
 
-// The form of text i.
-fn field_form(s: &[u8], i: usize) -> Form
-    ensures { λ r. ⌜ formView r ≡ cutForm (getD (map formOf (textsIn (fieldOf (now (s .entry))))) i formless) ⌝ }
+// The form of text i of an operation's field.
+fn field_form(o: Operation, s: &[u8], i: usize) -> Form
+    ensures { λ r. ⌜ formView r ≡ cutForm (getD (map (formBy (isAssembly DRC (operationView o))) (textsIn (fieldOf (now (s .entry))))) i formless) ⌝ }
 {
     let f = fields_of(s);
     let from = f.operand_start;
     let to = f.field_end;
-    form_at(&s[from..to], i)
+    form_at(is_assembly(o, Assembly::DRC), &s[from..to], i)
 }
 
-// Every text has a form.
-fn field_formed(s: &[u8]) -> bool
-    ensures { λ r. ⌜ r ≡ allFormed (map formOf (textsIn (fieldOf (now (s .entry))))) ⌝ }
+// Every text of an operation's field has a form.
+fn field_formed(o: Operation, s: &[u8]) -> bool
+    ensures { λ r. ⌜ r ≡ allFormed (map (formBy (isAssembly DRC (operationView o))) (textsIn (fieldOf (now (s .entry))))) ⌝ }
 {
     let f = fields_of(s);
     let from = f.operand_start;
     let to = f.field_end;
-    all_formed(&s[from..to])
+    all_formed(is_assembly(o, Assembly::DRC), &s[from..to])
 }
 
 // How many operands a card writes.
@@ -89,12 +93,12 @@ pub fn forms_formed(list: &Operations, c: Card, s: &[u8]) -> bool
         return true;
     }
     if !has_text(list, o) {
-        return field_formed(s);
+        return field_formed(o, s);
     }
     if field_count(s) == 0 {
         return true;
     }
-    !is_formless(field_form(s, 0))
+    !is_formless(field_form(o, s, 0))
 }
 
 // The name that a term, a form and a card's first operand write, 0 where it is none.
@@ -127,6 +131,7 @@ fn form_name(o: Form) -> u64
         Form::Difference(_) => 0,
         Form::Positive(_) => 0,
         Form::Negative(_) => 0,
+        Form::Real => 0,
     }
 }
 
@@ -137,7 +142,8 @@ pub fn first_name(list: &Operations, c: Card, s: &[u8]) -> u64
     if form_count(list, c, s) == 0 {
         return 0;
     }
-    form_name(field_form(s, 0))
+    let o = c.operation;
+    form_name(field_form(o, s, 0))
 }
 
 // What operand i of a card gives: nothing past its last format.
@@ -158,7 +164,7 @@ pub fn outcome_at(list: &Operations, c: Card, s: &[u8], syms: &[u64], n: usize, 
         return missing(format);
     }
     let line = c.spot.line;
-    outcome(field_form(s, i), format, line, s, syms, n)
+    outcome(field_form(o, s, i), format, line, s, syms, n)
 }
 
 // The value that an outcome gives, 0 where it gives none.

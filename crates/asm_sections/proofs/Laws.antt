@@ -12,7 +12,7 @@ use Rattle.base.proofs.Bool.{ok-eq}
 use Rattle.ops.specs.Class.{decided}
 use Rattle.ops.proofs.Every.{every, every-at}
 use Rattle.language.specs.Text.{between}
-use Rattle.language.specs.Operation.{Assembly, Assembly-discrete, DAC, DBC, DIC, DTC, EJC, END, EQU, EXP, GLB, INP, INR, Operation, SEC, TTL, assemblies, assembles, empty, isAssembly, isDivider, isSkipped, malformed, ofSection, operates, sameAssembly, unknown}
+use Rattle.language.specs.Operation.{Assembly, Assembly-discrete, DAC, DBC, DIC, DRC, DTC, EJC, END, EQU, EXP, GLB, INP, INR, Operation, SEC, TTL, assemblies, assembles, empty, isAssembly, isDivider, isSkipped, malformed, ofSection, operates, sameAssembly, unknown}
 use Rattle.language.specs.Card.{isOneWord}
 use Rattle.asm_types.specs.Views.{assemblyAt}
 use Rattle.asm_sections.specs.Codes.{assemblyCode, codeOf}
@@ -31,10 +31,11 @@ at-code GLB = refl
 at-code EQU = refl
 at-code DAC = refl
 at-code DIC = refl
+at-code DRC = refl
 at-code DBC = refl
 at-code DTC = refl
 
-pub code-below : (a : Assembly) → assemblyCode a < 13
+pub code-below : (a : Assembly) → assemblyCode a < 14
 code-below SEC = omega arith
 code-below END = omega arith
 code-below TTL = omega arith
@@ -46,20 +47,21 @@ code-below GLB = omega arith
 code-below EQU = omega arith
 code-below DAC = omega arith
 code-below DIC = omega arith
+code-below DRC = omega arith
 code-below DBC = omega arith
 code-below DTC = omega arith
 
-pub code-at : (n : ℕ) → n < 13 → n ≡ assemblyCode (assemblyAt n)
+pub code-at : (n : ℕ) → n < 14 → n ≡ assemblyCode (assemblyAt n)
 unfolding Ok _and_
 code-at n h = ok-eq _ _ (every-at (λ (i : ℕ) (a : Assembly). eqb i (assemblyCode (assemblyAt i))) SEC assemblies tt n h)
 
-pub code-last : (n : ℕ) → 12 ≤ n → 12 ≡ assemblyCode (assemblyAt n)
-code-last n h = go (eqb n 12) refl
+pub code-last : (n : ℕ) → 13 ≤ n → 13 ≡ assemblyCode (assemblyAt n)
+code-last n h = go (eqb n 13) refl
   where
-    go : (b : Bool) → eqb n 12 ≡ b → 12 ≡ assemblyCode (assemblyAt n)
-    go true q = rw (eqb-true n 12 q) refl
+    go : (b : Bool) → eqb n 13 ≡ b → 13 ≡ assemblyCode (assemblyAt n)
+    go true q = rw (eqb-true n 13 q) refl
     go false q =
-        let l : 13 ≤ n = omega (arith, eqb-false n 12 q) in
+        let l : 14 ≤ n = omega (arith, eqb-false n 13 q) in
         ap assemblyCode (sym (List·getD-eq-default assemblies DTC {n = n} l))
 
 code-eq : (a b : Assembly) → assemblyCode b ≡ assemblyCode a → a ≡ b
@@ -72,15 +74,15 @@ decided-code a b (no p) = sym (ne-eqb _ _ (λ e. p (code-eq a b e)))
 -- a test for an assembly operation is one of the code
 pub assembly-is : (a : Assembly) (o : Operation) → isAssembly a o ≡ eqb (codeOf o) (assemblyCode a)
 unfolding codeOf
-assembly-is a empty = sym (ne-eqb 13 (assemblyCode a) (λ e. omega (arith, code-below a)))
-assembly-is a malformed = sym (ne-eqb 14 (assemblyCode a) (λ e. omega (arith, code-below a)))
-assembly-is a unknown = sym (ne-eqb 15 (assemblyCode a) (λ e. omega (arith, code-below a)))
+assembly-is a empty = sym (ne-eqb 14 (assemblyCode a) (λ e. omega (arith, code-below a)))
+assembly-is a malformed = sym (ne-eqb 15 (assemblyCode a) (λ e. omega (arith, code-below a)))
+assembly-is a unknown = sym (ne-eqb 16 (assemblyCode a) (λ e. omega (arith, code-below a)))
 assembly-is a (assembles b) = decided-code a b (Assembly-discrete a b)
-assembly-is a (operates i) = sym (ne-eqb 16 (assemblyCode a) (λ e. omega (arith, code-below a)))
+assembly-is a (operates i) = sym (ne-eqb 17 (assemblyCode a) (λ e. omega (arith, code-below a)))
 
 -- Tests by code, in the order in which the functions try them.
 
-skipped-assembly : (a : Assembly) → (sameAssembly TTL a or sameAssembly EJC a) ≡ (eqb (assemblyCode a) 2 or eqb (assemblyCode a) 3 or eqb (assemblyCode a) 13)
+skipped-assembly : (a : Assembly) → (sameAssembly TTL a or sameAssembly EJC a) ≡ (eqb (assemblyCode a) 2 or eqb (assemblyCode a) 3 or eqb (assemblyCode a) 14)
 unfolding _or_
 skipped-assembly SEC = refl
 skipped-assembly END = refl
@@ -93,10 +95,11 @@ skipped-assembly GLB = refl
 skipped-assembly EQU = refl
 skipped-assembly DAC = refl
 skipped-assembly DIC = refl
+skipped-assembly DRC = refl
 skipped-assembly DBC = refl
 skipped-assembly DTC = refl
 
-pub skipped-by : (o : Operation) (n : ℕ) → n ≡ codeOf o → isSkipped o ≡ (eqb n 2 or eqb n 3 or eqb n 13)
+pub skipped-by : (o : Operation) (n : ℕ) → n ≡ codeOf o → isSkipped o ≡ (eqb n 2 or eqb n 3 or eqb n 14)
 unfolding isSkipped codeOf _or_
 skipped-by empty n e = rw e
 skipped-by malformed n e = rw e
@@ -108,7 +111,7 @@ pub divider-by : (o : Operation) (n : ℕ) → n ≡ codeOf o → isDivider o �
 unfolding isDivider
 divider-by o n e = rw (e, assembly-is SEC o, assembly-is END o)
 
-pub one-word-by : (o : Operation) (n : ℕ) → n ≡ codeOf o → isOneWord o ≡ (eqb n 9 or eqb n 10 or eqb n 11)
+pub one-word-by : (o : Operation) (n : ℕ) → n ≡ codeOf o → isOneWord o ≡ (eqb n 9 or eqb n 10 or eqb n 12)
 unfolding isOneWord
 one-word-by o n e = rw (e, assembly-is DAC o, assembly-is DIC o, assembly-is DBC o)
 
@@ -118,7 +121,7 @@ sectionBy n k =
     (if (leb n 3) (leb k 7)
     (if (leb n 7) (between 1 1 k)
     (if (eqb n 8) (between 2 2 k)
-    (if (leb n 12) (between 3 4 k) (if (eqb n 15) false (if (eqb n 16) (leb 5 k) true))))))
+    (if (leb n 13) (between 3 4 k) (if (eqb n 16) false (if (eqb n 17) (leb 5 k) true))))))
 
 section-assembly : (k : ℕ) (a : Assembly) → ofSection k (assembles a) ≡ sectionBy (assemblyCode a) k
 unfolding if _and_ between
@@ -133,6 +136,7 @@ section-assembly k GLB = refl
 section-assembly k EQU = refl
 section-assembly k DAC = refl
 section-assembly k DIC = refl
+section-assembly k DRC = refl
 section-assembly k DBC = refl
 section-assembly k DTC = refl
 

@@ -8,13 +8,13 @@ use asm_types::Assembly;
 use asm_types::Operation;
 
 // The codes past those of the assembly operations.
-pub const EMPTY: u32 = 13;
+pub const EMPTY: u32 = 14;
 
-pub const MALFORMED: u32 = 14;
+pub const MALFORMED: u32 = 15;
 
-pub const UNKNOWN: u32 = 15;
+pub const UNKNOWN: u32 = 16;
 
-pub const OPERATES: u32 = 16;
+pub const OPERATES: u32 = 17;
 
 // The number of an assembly operation.
 fn assembly_code(a: u32) -> u32
@@ -41,7 +41,7 @@ pub fn code_of(o: Operation) -> u32
 
 // The operation is the assembly operation of this number.
 pub fn is_assembly(o: Operation, code: u32) -> bool
-    requires { ⌜ code < 13 ⌝ }
+    requires { ⌜ code < 14 ⌝ }
     ensures { λ r. ⌜ r ≡ isAssembly (assemblyAt code) (operationView o) ⌝ }
 {
     code_of(o) == code

@@ -45,6 +45,8 @@ pub const ADDR_TAG: u32 = ADDR / TAG;
 
 pub const INTEGER_TAG: u32 = INTEGER / TAG;
 
+pub const REAL_TAG: u32 = REAL / TAG;
+
 // The registers as words: the last that points to characters, the last X.
 const XR: u32 = Machine::XR as u32;
 

@@ -18,7 +18,7 @@ use Rattle.language.proofs.Places.{behind}
 use Rattle.asm_reader.specs.Line.{lineEnd}
 use Rattle.asm_reader.proofs.Laws.{walk-line}
 use Rattle.asm_cards.specs.Reading.{Counted}
-use Rattle.asm_cards.proofs.Counting.{counted-past, counted-start}
+use Rattle.asm_cards.proofs.Counting.{card-own, counted-past, counted-start}
 use Rattle.asm_answers.specs.Verdicts.{VerdictOf, verdictView}
 use Rattle.asm_answers.specs.declared.verdict.Verdict.{Verdict}
 use Rattle.asm_answers.specs.declared.verdict.Verdict.the-variants.{Clear, Broken}
@@ -93,7 +93,7 @@ module _ (text : List ℕ) (d : Deck) (size : ℕ) (r : Reader) (i e : ℕ) (v :
         let b : below ≡ walk (past k) (lines (drop (e + 1) text)) = rw t refl in
         record {
           inside = omega arith;
-          counted = subst (λ (j : ℕ). Counted j (past k)) w (counted-past i k counted-here);
+          counted = subst (λ (j : ℕ). Counted j (past k)) w (counted-past i k (card-own k r (take (e - i) (drop i text)) k-is) counted-here);
           places = let p : k .spot .place ≡ r .place = ap (λ (x : Reader). x .place) spot-is in omega (arith, rw b at card-places);
           rest = λ a. rw b at (goes-on n a);
         }

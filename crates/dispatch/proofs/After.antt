@@ -5,12 +5,12 @@ use mathlib.Core.Path.{_≡_, refl, sym, ap, subst, _∙_}
 use mathlib.Core.Bool.{Bool, true, false}
 use mathlib.Core.List.{List, [], _∷_}
 use native.Mathlib.Omega.{arith}
-use lib.ListN.{length, take}
+use lib.ListN.{length, set, take}
 use lib.Seq.{getD-set-other}
 use Rattle.base.specs.Test.{Ok}
 use Rattle.base.specs.Lists.{_at_}
 use Rattle.base.proofs.Bool.{and-r, ok-le}
-use Rattle.ops.specs.Machine.{maxLinks, IA, FLAG}
+use Rattle.ops.specs.Machine.{maxLinks, IA, FLAG, RA, RAHIGH, RFLAG}
 use Rattle.ops.specs.Class.{Class, Flow, executes, marks, none}
 use Rattle.rules.specs.Number.{Trap, trapNumber, waits, outcomeNumber}
 use Rattle.rules.specs.Table.{entryAt, classAt}
@@ -20,7 +20,9 @@ use Rattle.rules.specs.Control.{Transfer, jump, raise, wait, halt, lost, Step, 
 use Rattle.rules.specs.Claim.{StepClaim, stopping}
 use Rattle.rules.proofs.Keeps.{Lasting}
 use Rattle.rules.proofs.Lasts.{AfterStep, step-keeps}
-use Rattle.rules.proofs.Steps.{parts, step-ok}
+use Rattle.rules.proofs.Steps.{parts, real-part, step-ok}
+use Rattle.real_rules.specs.Real.{Real, value, overflow, lowWord, highWord, settled}
+use Rattle.real_rules.proofs.Held.{Held}
 use Rattle.exec_core.specs.Views.{answerBase, toward}
 use Rattle.exec_core.specs.Seen.{Seen, seen, openLinks, placeOf, stateBy, stepped, stepSeen, Running}
 use Rattle.exec_core.proofs.Steps.{place-of}
@@ -67,6 +69,15 @@ module _ (t : List ℕ) (s : State) where
 abbrev Zeroed : List ℕ → Type 0
 Zeroed z = z at 0 ≡ 0
 
+zero-settled : (r : Real) (z : List ℕ) → Held r → Zeroed z → Zeroed (settled r z)
+unfolding settled
+zero-settled (value x) z h e =
+    getD-set-other (set (set z RA (lowWord x)) RAHIGH (highWord x)) RFLAG 0 0 0 (λ i. omega arith)
+    ∙ getD-set-other (set z RA (lowWord x)) RAHIGH 0 (highWord x) 0 (λ i. omega arith)
+    ∙ getD-set-other z RA 0 (lowWord x) 0 (λ i. omega arith)
+    ∙ e
+zero-settled overflow z h e = getD-set-other z RFLAG 0 1 0 (λ i. omega arith) ∙ e
+
 zero-lasting : Lasting Zeroed
 zero-lasting =
     record {
@@ -74,6 +85,7 @@ zero-lasting =
       ia = λ {z} v e. getD-set-other z IA 0 v 0 (λ i. omega arith) ∙ e;
       off = λ {z} e. getD-set-other z FLAG 0 0 0 (λ i. omega arith) ∙ e;
       on = λ {z} e. getD-set-other z FLAG 0 1 0 (λ i. omega arith) ∙ e;
+      settles = zero-settled;
     }
 
 -- the state by its parts
@@ -104,7 +116,7 @@ module _ {t : List ℕ} {b : ℕ} {z m l : List ℕ} {c : ℕ} (y : Running t b 
 
   -- what the rules say of the step
   claim : (x : Step) → step t s ≡ x → StepClaim t s (s .links) x
-  claim x k = subst (StepClaim t s (s .links)) k (step-ok t (y .checked) s (parts t s (y .passes)))
+  claim x k = subst (StepClaim t s (s .links)) k (step-ok t (y .checked) s (parts t s (y .passes)) (real-part t s (y .passes)))
 
   placed : (x : Step) → step t s ≡ x → Placed s x
   placed x k = subst (Placed s) k (step-placed t s)

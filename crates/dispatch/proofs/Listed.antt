@@ -1,17 +1,20 @@
 -- The dispatcher has an arm for every operation that can be arrived at.
 -- Assumes nothing.
-use Prim.Native.Nat.{ℕ}
-use mathlib.Core.Path.{_≡_, refl}
+use Prim.Native.Nat.{ℕ, zero, suc, _+_, _-_, _<_, _≤_}
+use mathlib.Core.Path.{_≡_, refl, subst}
 use mathlib.Core.Bool.{Bool, true, false, cond}
 use mathlib.Core.List.{List, [], _∷_}
 use mathlib.Core.Logic.{⊎-elim}
-use lib.Dec.{eqb, ltb}
-use Rattle.base.specs.Test.{Ok, if}
+use native.Mathlib.Omega.{arith}
+use lib.Dec.{eqb, leb, ltb}
+use borrow.Author.Tests.{le-leb, lt-leb}
+use Rattle.base.specs.Test.{Ok, _and_, _or_, if}
 use Rattle.base.specs.Lists.{_at_, member}
-use Rattle.base.proofs.Bool.{eq-ok, failed, ok-eq, or-cases, or-l, or-r, true-ok}
+use Rattle.base.proofs.Bool.{eq-ok, failed, ok-eq, or-cases, or-l, or-r, passed, true-ok}
 use Rattle.ops.specs.Class.{isExecutable}
 use Rattle.ops.specs.Ops.{Row, rows, classIn}
 use Rattle.exec_core.specs.Seen.{Running}
+use Rattle.dispatch.specs.Reals.{realNumbers}
 use Rattle.exec_core.proofs.Steps.{executable-number}
 
 -- a number put before the first that is less
@@ -71,11 +74,86 @@ abbrev pub NoneOf : ℕ → List ℕ → Type 0
 NoneOf k [] = Unit {0}
 NoneOf k (n ∷ ns) = NoneOf k ns × (k ≡ n → ⊥)
 
-none-of : (k : ℕ) (ns : List ℕ) → NoneOf k ns → Ok (member k ns) → ⊥
+pub none-of : (k : ℕ) (ns : List ℕ) → NoneOf k ns → Ok (member k ns) → ⊥
 unfolding member
 none-of k [] h a = failed a
 none-of k (n ∷ ns) h a = ⊎-elim (λ e. h .1 (ok-eq k n e)) (λ e. none-of k ns (h .0) e) (or-cases _ _ a)
 
+-- The real operations, which go by a function of their own.
+
+abbrev pub isReal : ℕ → Bool
+isReal n = leb 501 n and leb n 515 or leb 805 n and leb n 806
+
+pub below-reals : (n : ℕ) → n < 501 → isReal n ≡ false
+unfolding _and_ _or_
+below-reals n h = rw (lt-leb 501 n h, lt-leb 805 n (omega arith)) refl
+
+pub between-reals : (n : ℕ) → 515 < n → n < 805 → isReal n ≡ false
+unfolding _and_ _or_
+between-reals n h g = rw (le-leb 501 n (omega arith), lt-leb n 515 h, lt-leb 805 n g) refl
+
+pub above-reals : (n : ℕ) → 806 < n → isReal n ≡ false
+unfolding _and_ _or_
+above-reals n h = rw (le-leb 501 n (omega arith), lt-leb n 515 (omega arith), le-leb 805 n (omega arith), lt-leb n 806 h) refl
+
+-- the numbers that are no real operation's
+abbrev pub others : List ℕ → List ℕ
+others [] = []
+others (n ∷ ns) = cond (isReal n) (others ns) (n ∷ others ns)
+
+member-others : (k : ℕ) (ns : List ℕ) → isReal k ≡ false → Ok (member k ns) → Ok (member k (others ns))
+unfolding member
+member-others k [] e h = absurd (failed h)
+member-others k (n ∷ ns) e h =
+    ⊎-elim (λ q. there (ok-eq k n q)) (λ q. kept (isReal n) (member-others k ns e q)) (or-cases _ _ h)
+  where
+    kept : (b : Bool) → Ok (member k (others ns)) → Ok (member k (cond b (others ns) (n ∷ others ns)))
+    kept true a = a
+    kept false a = or-r _ _ a
+
+    there : k ≡ n → Ok (member k (cond (isReal n) (others ns) (n ∷ others ns)))
+    there q = rw (← q, e) (or-l _ _ (eq-ok k k refl))
+
+-- the number of a real operation of section 5, and of section 8
+pub real-listed : (n : ℕ) → 501 ≤ n → n ≤ 515 → Ok (member n realNumbers)
+unfolding member _or_
+real-listed n h g =
+    let e : 501 + (n - 501) ≡ n = omega arith in
+    subst (λ (k : ℕ). Ok (member k realNumbers)) e (go (n - 501) (omega arith))
+  where
+    go : (i : ℕ) → i ≤ 14 → Ok (member (501 + i) realNumbers)
+    go zero l = passed
+    go (suc zero) l = passed
+    go (suc (suc zero)) l = passed
+    go (suc (suc (suc zero))) l = passed
+    go (suc (suc (suc (suc zero)))) l = passed
+    go (suc (suc (suc (suc (suc zero))))) l = passed
+    go (suc (suc (suc (suc (suc (suc zero)))))) l = passed
+    go (suc (suc (suc (suc (suc (suc (suc zero))))))) l = passed
+    go (suc (suc (suc (suc (suc (suc (suc (suc zero)))))))) l = passed
+    go (suc (suc (suc (suc (suc (suc (suc (suc (suc zero))))))))) l = passed
+    go (suc (suc (suc (suc (suc (suc (suc (suc (suc (suc zero)))))))))) l = passed
+    go (suc (suc (suc (suc (suc (suc (suc (suc (suc (suc (suc zero))))))))))) l = passed
+    go (suc (suc (suc (suc (suc (suc (suc (suc (suc (suc (suc (suc zero)))))))))))) l = passed
+    go (suc (suc (suc (suc (suc (suc (suc (suc (suc (suc (suc (suc (suc zero))))))))))))) l = passed
+    go (suc (suc (suc (suc (suc (suc (suc (suc (suc (suc (suc (suc (suc (suc zero)))))))))))))) l = passed
+    go (suc (suc (suc (suc (suc (suc (suc (suc (suc (suc (suc (suc (suc (suc (suc i))))))))))))))) l = absurd (omega arith)
+
+pub converts-listed : (n : ℕ) → 801 ≤ n → (n ≡ 801 → ⊥) → (n ≡ 802 → ⊥) → (n ≡ 803 → ⊥) → (n ≡ 804 → ⊥) → n < 807 → Ok (member n realNumbers)
+unfolding member _or_
+converts-listed n a p q r s g =
+    let h : 805 ≤ n = omega arith in
+    let e : 805 + (n - 805) ≡ n = omega arith in
+    subst (λ (k : ℕ). Ok (member k realNumbers)) e (go (n - 805) (omega arith))
+  where
+    go : (i : ℕ) → i ≤ 1 → Ok (member (805 + i) realNumbers)
+    go zero l = passed
+    go (suc zero) l = passed
+    go (suc (suc i)) l = absurd (omega arith)
+
 -- no other operation stands where the machine runs
-pub unlisted : {t : List ℕ} {b : ℕ} {z m l : List ℕ} {c : ℕ} → Running t b z m l c → NoneOf (t at b) (arrivable [] rows) → ⊥
-unlisted {t} {b} y h = none-of (t at b) (arrivable [] rows) h (listed (t at b) [] rows (executable-number y))
+pub unlisted : {t : List ℕ} {b : ℕ} {z m l : List ℕ} {c : ℕ} → Running t b z m l c → NoneOf (t at b) (others (arrivable [] rows))
+    → isReal (t at b) ≡ false → ⊥
+unlisted {t} {b} y h e =
+    none-of (t at b) (others (arrivable [] rows)) h
+    (member-others (t at b) (arrivable [] rows) e (listed (t at b) [] rows (executable-number y)))

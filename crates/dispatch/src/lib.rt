@@ -1,5 +1,6 @@
 // One step: the operation that stands at the entry b, by its number, 100 × section + item of [M section 8].
-// One flat match, and each operation called from here alone: so the compiler makes one jump table and folds every operation into the loop.
+// One flat match, and each operation called from here alone: so the compiler makes one jump table and folds every operation into the loop. The reals go by a
+// function of their own, which is called from two arms and so stays one.
 ghost use mathlib.Core.Path.{_≡_};
 ghost use lib.ListN.{length};
 ghost use Rattle.exec_core.specs.Seen.{seen, openLinks, stepSeen, Running};
@@ -88,6 +89,9 @@ use exec_moves::ssl;
 use exec_moves::sub;
 use exec_moves::zer;
 use ops::constants::Machine;
+use real_steps::real_step;
+
+pub mod real_steps;
 
 // The answer is 64 + the offset of the next entry, 20 at the JSR of an EXP, or the number of a trap, which leaves all as it was.
 // No lent array says that it keeps its length, so the contract says it of the links.
@@ -153,6 +157,7 @@ pub fn dispatch(
         414 => ile(t, b, z),
         415 => ilt(t, b, z),
         416 => ine(t, b, z),
+        501..=515 => real_step(t, b, m, z, links, c),
         601 => plc(t, b, m, z),
         602 => psc(t, b, m, z),
         603 => lch(t, b, m, z),
@@ -177,6 +182,7 @@ pub fn dispatch(
         802 => btw(t, b, z),
         803 => mti(t, b, m, z),
         804 => mfi(t, b, m, z, c),
+        805..=806 => real_step(t, b, m, z, links, c),
         807 => ctw(t, b, z),
         808 => ctb(t, b, z),
         809 => btc(b),

@@ -153,7 +153,7 @@ unfolding field
 op-is t p = rw (add-zero (8 + 8 * p)) refl
 
 -- a row that is found is in the table
-pub row-inside : (n : ℕ) {i : ℕ} → rowOfNumber n ≡ found.Row i → i < 89
+pub row-inside : (n : ℕ) {i : ℕ} → rowOfNumber n ≡ found.Row i → i < 106
 row-inside n {i} e = rw (← rows-count) (number-exactly n i .0 e .0)
 
 -- the rules of an entry are those of the words of its row

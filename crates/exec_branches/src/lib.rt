@@ -34,7 +34,7 @@ pub enum Both {
 }
 
 // The answer that branches to operand one, two or three if q holds, and else goes on.
-fn first_if(t: &[u32], b: usize, q: bool) -> usize
+pub fn first_if(t: &[u32], b: usize, q: bool) -> usize
     requires { ⌜ (b + 8 ≤ length (now t)) × (b ≤ entryAt maxInstrs) × (now t at (b + 1) ≡ placeKind) ⌝ }
     ensures { λ r. ⌜ r ≡ wayOf (now (t .entry)) b (fork 1 q) ⌝ }
 {

@@ -16,10 +16,9 @@ use Rattle.rules.specs.Operand.{Operand, movedOf, fetchOf, given}
 use Rattle.rules.specs.Exec.{loads}
 use Rattle.exec_core.specs.declared.Fetched.{Fetched}
 use Rattle.exec_core.specs.declared.Fetched.the-variants.{Got, Missing}
-use Rattle.exec_core.specs.Entry.{Sound}
+use Rattle.exec_core.specs.Entry.{Sound, steady}
 use Rattle.exec_core.specs.Views.{fetchedOf, answered}
 use Rattle.exec_core.proofs.Laws.{moved-still}
-use Rattle.exec_integers.specs.Integers.{steady}
 
 -- an operand of these kinds moves nothing
 pub steady-still : (n : ℕ) (z : List ℕ) (o : Operand) → Sound steady o → z ≡ movedOf n z o

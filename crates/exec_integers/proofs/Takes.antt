@@ -4,8 +4,7 @@ use Rattle.base.specs.Test.{Ok, if, _and_, _or_}
 use Rattle.base.specs.Lists.{member}
 use Rattle.ops.specs.Ops.{rows}
 use Rattle.rules.specs.Check.{among}
-use Rattle.exec_core.specs.Entry.{readable, writable, isPlace, going, allTake, formatTakes, takes}
-use Rattle.exec_integers.specs.Integers.{steady}
+use Rattle.exec_core.specs.Entry.{readable, writable, isPlace, steady, going, allTake, formatTakes, takes}
 
 pub ldi-takes : Ok (takes steady readable going 401 rows)
 unfolding Ok takes formatTakes allTake readable steady among member rows if _and_ _or_

@@ -38,7 +38,7 @@ pub extern "C" fn torzimlak_check_state(table: &[u32], len: usize, state: &[u32]
     state_number(table, len, state)
 }
 
-// 0: the program stands at the start of section 4, its words and the host's fresh words in memory and all other words 0, its 267 words of state in
+// 0: the program stands at the start of section 4, its words and the host's fresh words in memory and all other words 0, its 270 words of state in
 // what is lent, the host's argument in WA. 30: the table does not pass its check. 31: fewer words are lent than a state has. 10: the length of
 // memory. 43: the count of fresh words.
 #[no_mangle]
@@ -112,7 +112,7 @@ pub extern "C" fn torzimlak_write(
     write_words(table, memory, state, build, file)
 }
 
-// 0: the machine at the end of the file is woken, its memory and its 267 words of state in what is lent, with the host's fresh words.
+// 0: the machine at the end of the file is woken, its memory and its 270 words of state in what is lent, with the host's fresh words.
 // 30: the table does not pass its check. 31: fewer words are lent than a state has. 40 the trailer, 41 another program or build,
 // 42 the frozen state, 43 the count of fresh words, 44 the length of memory.
 #[no_mangle]

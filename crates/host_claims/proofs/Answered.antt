@@ -18,7 +18,7 @@ use Rattle.rules.specs.Control.{Step, awaits, next, step, stuck, traps}
 use Rattle.rules.specs.Run.{Answer, Call, answer, ended, nowhere, ofCall, oneMore, onward, perform, ran, refused, resumes, runs, steps, stepsIn, verdict}
 use Rattle.rules.specs.State.{State, stateOk}
 use Rattle.rules.proofs.Runs.{Ended, performed}
-use Rattle.rules.proofs.Steps.{parts, sound}
+use Rattle.rules.proofs.Steps.{parts, real-part, sound}
 
 -- A run takes at most as many steps as its budget says.
 
@@ -72,7 +72,7 @@ module _ (t : List ℕ) (s : State) (ok : Ok (tableOk t)) (fine : Ok (stateOk t 
   answer-granted c e = rw (verdict-is c ∙ e)
 
   pub ends : (c : Call) → ofCall t s c ≡ granted → Ended c (perform t s c)
-  ends c e = performed t ok s (s .links) (sound t ok s (s .links) (parts t s fine) refl) c (verdict-is c ∙ e) .ends
+  ends c e = performed t ok s (s .links) (sound t ok s (s .links) (parts t s fine) (real-part t s fine) refl) c (verdict-is c ∙ e) .ends
 
   pub run-answer : (k : ℕ) → RunAnswer t s k
   unfolding answer if

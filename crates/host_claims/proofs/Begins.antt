@@ -65,11 +65,11 @@ passing-checked t s rest ws mem p w e =
 pub begun-checked : (t ws mem : List ℕ) → Begun t ws mem → Checked t ws mem
 begun-checked t ws mem (byStart k lent fs x room h) =
     let b = start-begins (startWords k t lent fs x room) (sym (h .number)) in
-    passing-checked t (b .state) (drop 267 room) ws mem (begun-sound k t lent fs x room (b .state) (b .is))
+    passing-checked t (b .state) (drop 270 room) ws mem (begun-sound k t lent fs x room (b .state) (b .is))
     (h .state ∙ ap (λ (a : Start.Started). wordsBegun a room) (b .is)) (h .machine (b .state) (b .is))
 begun-checked t ws mem (byRestore file build fs lent room h) =
     let b = restore-wakes (restoreWords t file build fs lent room) (sym (h .number)) in
-    passing-checked t (b .state) (drop 267 room) ws mem
+    passing-checked t (b .state) (drop 270 room) ws mem
     (woken-sound t file build fs lent (b .state) (woken-wakes t file build fs lent room (b .state) (b .is)))
     (h .state ∙ ap (λ (a : Snapshot.Restored). wordsAfter a room) (b .is)) (h .machine (b .state) (b .is))
 

@@ -18,7 +18,7 @@ use Rattle.rules.specs.State as Rules
 use Rattle.rules.specs.State.{Link, stateOk}
 use Rattle.rules.proofs.Files.{state-limits}
 use Rattle.rules.proofs.Runs.{call-ok, call-passes, ended-passes}
-use Rattle.rules.proofs.Steps.{parts, sound}
+use Rattle.rules.proofs.Steps.{parts, real-part, sound}
 use Rattle.states.specs.Views.{codeOf}
 use Rattle.lent.specs.Lent.{lawful, stateFrom}
 use Rattle.host_claims.specs.Running.{callNumber, wordsLeft}
@@ -36,7 +36,7 @@ left-lawful t ws mem c words h = go (answer t (stateFrom ws mem) c) refl
     go nowhere p w = rw w (h .is-state)
     go (ended o k s) p w =
         let fine : Ok (stateOk t s) = ended-passes t (stateFrom ws mem) c o k s (h .table) (h .state) p in
-        rw w (lawful-words (codeOf s) (drop 267 ws) (full-links s (state-limits t s fine .few)))
+        rw w (lawful-words (codeOf s) (drop 270 ws) (full-links s (state-limits t s fine .few)))
 
 -- The numbers.
 
@@ -141,7 +141,7 @@ calls-claim t (m ∷ ms) ws mem b h e p =
     let mem₁ : List ℕ = memoryWritten mem (m .writes) in
     let g : Checked t ws₁ mem₁ = written-checked t ws mem (m .writes) h in
     let same : stateFrom ws₁ mem₁ .links ≡ b = ap (λ (s : Rules.State). s .links) (writes-state (m .writes) ws mem (omega (arith, lawful-length ws (h .is-state)))) ∙ e in
-    let c = call-claim t ws₁ mem₁ g b (sound t (h .table) (stateFrom ws₁ mem₁) b (parts t (stateFrom ws₁ mem₁) (g .state)) same) m (p .0) in
+    let c = call-claim t ws₁ mem₁ g b (sound t (h .table) (stateFrom ws₁ mem₁) b (parts t (stateFrom ws₁ mem₁) (g .state)) (real-part t (stateFrom ws₁ mem₁) (g .state)) same) m (p .0) in
     let left-links = ap (λ (s : Rules.State). s .links) (c .machine) ∙ c .rules .sound .links-are-calls in
     (c, calls-claim t ms (m .words) (m .memory) _ (number-checked t (m .words) (m .memory) (c .passes)) left-links (p .1))
 

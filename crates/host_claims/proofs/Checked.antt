@@ -17,7 +17,8 @@ use Rattle.rules.specs.State as Rules
 use Rattle.rules.specs.State.{stateOk}
 use Rattle.rules.proofs.Demand.{all-length}
 use Rattle.rules.proofs.Files.{bit-le, state-limits}
-use Rattle.rules.proofs.Steps.{parts, whole}
+use Rattle.rules.proofs.RealLasts.{real-host}
+use Rattle.rules.proofs.Steps.{parts, real-part, whole}
 use Rattle.states.specs.declared.State.{State}
 use Rattle.states.proofs.Front.{links-front, links-length}
 use Rattle.lent.specs.Lent.{lawful, linksLent, stateFrom, wordsFrom}
@@ -49,10 +50,10 @@ checked-number t ws mem h = rw (test-true _ (h .table), test-true _ (h .is-state
 pub lawful-words : (s : State) (rest : List ℕ) → length (s .links) ≡ 256 → Ok (lawful (wordsFrom s ++ rest))
 unfolding lawful
 lawful-words s rest n =
-    and-i _ _ (le-ok 267 (length (wordsFrom s ++ rest)) (simp length-append (omega (arith, n))))
+    and-i _ _ (le-ok 270 (length (wordsFrom s ++ rest)) (simp length-append (omega (arith, n))))
     (and-i _ _ (le-ok _ _ (bit-le (s .flag))) (le-ok _ _ (bit-le (s .waiting))))
 
-pub lawful-length : (ws : List ℕ) → Ok (lawful ws) → 267 ≤ length ws
+pub lawful-length : (ws : List ℕ) → Ok (lawful ws) → 270 ≤ length ws
 unfolding lawful
 lawful-length ws h = ok-le _ _ (and-l _ _ h)
 
@@ -61,7 +62,7 @@ lawful-length ws h = ok-le _ _ (and-l _ _ h)
 -- the links in checked words are the first of the 256, as many as their count says
 pub links-taken : (t ws mem : List ℕ) → Checked t ws mem → stateFrom ws mem .links ≡ take (ws at 10) (drop 11 ws)
 links-taken t ws mem h =
-    let long : 267 ≤ length ws = lawful-length ws (h .is-state) in
+    let long : 270 ≤ length ws = lawful-length ws (h .is-state) in
     let full : length (linksLent ws) ≡ 256 = length-take-le 256 (drop 11 ws) (simp length-drop (omega (arith, long))) in
     let few : ws at 10 ≤ 256 = omega (arith, links-length (ws at 10) (linksLent ws) full, state-limits t (stateFrom ws mem) (h .state) .few) in
     links-front (ws at 10) (linksLent ws) few ∙ take-take (ws at 10) 256 (drop 11 ws) few
@@ -130,11 +131,12 @@ writes-state (toIA v ∷ us) ws mem h =
 -- the host's writes keep what the check asks
 pub written-checked : (t ws mem : List ℕ) (us : List Write) → Checked t ws mem → Checked t (wordsWritten ws us) (memoryWritten mem us)
 written-checked t ws mem us h =
-    let long : 267 ≤ length ws = lawful-length ws (h .is-state) in
+    let long : 270 ≤ length ws = lawful-length ws (h .is-state) in
     let p = parts t (stateFrom ws mem) (h .state) in
     let fine : Ok (stateOk t (host (stateFrom ws mem) us)) =
     whole t (host (stateFrom ws mem) us)
-    (record { fits = rw (all-length (stateFrom ws mem .core) us) (p .fits); few = p .few; chained = p .chained; arrives = p .arrives; covered = p .covered; waits = p .waits }) in
+    (record { fits = rw (all-length (stateFrom ws mem .core) us) (p .fits); few = p .few; chained = p .chained; arrives = p .arrives; covered = p .covered; waits = p .waits })
+    (real-host (stateFrom ws mem) us (real-part t (stateFrom ws mem) (h .state))) in
     record {
       table = h .table;
       is-state = rw (lawful-written us ws) (h .is-state);

@@ -3,11 +3,11 @@
 use Prim.Native.Nat.{ℕ, _+_, _-_, _≤_}
 use mathlib.Core.Path.{_≡_, refl, sym, ap, subst, _∙_}
 use mathlib.Core.Bool.{Bool, true, false}
-use mathlib.Core.List.{List, _++_}
+use mathlib.Core.List.{List, _++_, append-assoc}
 use native.Mathlib.Omega.{arith}
 use lib.Dec.{eqb, ltb}
 use lib.ListN.{length, take, drop, replicate, length-append, length-replicate}
-use lib.Seq.{take-at}
+use lib.Seq.{getD-append-add, take-at}
 use Rattle.base.specs.Test.{if, Ok}
 use Rattle.base.specs.Lists.{_at_}
 use Rattle.base.proofs.Bool.{by-if, true-ok, unless-no, unless-yes}
@@ -15,7 +15,7 @@ use Rattle.rules.specs.Number.{Outcome, Refusal, badState, badTable}
 use Rattle.rules.specs.Check.{tableOk}
 use Rattle.rules.specs.Control.{stateAt}
 use Rattle.rules.specs.Start as Start
-use Rattle.rules.specs.Start.{Mode, begun, initial, memoryBegun, ownWords, startOn, unbegun}
+use Rattle.rules.specs.Start.{Mode, begun, initial, memoryBegun, machineWords, startOn, unbegun}
 use Rattle.rules.specs.Snapshot as Snapshot
 use Rattle.rules.specs.Snapshot.{bit, memoryWoken, restoreOf, unwoken, woken}
 use Rattle.rules.specs.State as Rules
@@ -31,28 +31,38 @@ use Rattle.rules.proofs.Starts.{started-passes}
 use Rattle.states.specs.declared.State.{State}
 use Rattle.states.specs.Views.{codeOf, linksOf, stateOf}
 use Rattle.states.proofs.Coded.{code-view}
-use Rattle.lent.specs.Lent.{lawful, stateFrom, wordsFrom}
+use Rattle.lent.specs.Lent.{lawful, stateFrom, tailOf, wordsFrom}
 use Rattle.host_claims.specs.Running.{callWords, startWords, wordsBegun, wordsLeft}
 use Rattle.host_claims.specs.Freezing.{restoreWords, wordsAfter}
 
 -- Words and machines.
 
-built : State → List ℕ → Bool → Bool → List ℕ → Rules.State
-built s mem flag waiting ls =
+built : State → List ℕ → Bool → Bool → List ℕ → ℕ → ℕ → ℕ → Rules.State
+built s mem flag waiting ls lo hi real =
     stateAt
     (record {
-      words = ownWords (s .xl) (s .xr) (s .xs) (s .wa) (s .wb) (s .wc) (s .ia) (bit flag);
+      words =
+          machineWords (s .xl) (s .xr) (s .xs) (s .wa) (s .wb) (s .wc) (s .ia) (bit flag) lo hi real;
       mem = mem;
     })
     (s .pc) waiting (linksOf (s .count) ls)
+
+-- word i behind 256 links
+behind : (links tail rest : List ℕ) (i : ℕ) → length links ≡ 256 → (links ++ tail ++ rest) at (256 + i) ≡ (tail ++ rest) at i
+behind links tail rest i n = rw (append-assoc links tail rest, ← n) (getD-append-add links (tail ++ rest) i 0)
 
 -- the words of a state are that state
 pub stateFrom-words : (s : State) (rest mem : List ℕ) → length (s .links) ≡ 256 → stateFrom (wordsFrom s ++ rest) mem ≡ stateOf s mem
 unfolding built
 stateFrom-words s rest mem n =
-    ap (λ (b : Bool). built s mem b (eqb (bit (s .waiting)) 1) (take 256 (s .links ++ rest))) (eqb-bit (s .flag))
-    ∙ ap (λ (b : Bool). built s mem (s .flag) b (take 256 (s .links ++ rest))) (eqb-bit (s .waiting))
-    ∙ ap (λ (l : List ℕ). built s mem (s .flag) (s .waiting) l) (take-at (s .links) rest 256 n)
+    let x : List ℕ = s .links ++ tailOf s ++ rest in
+    let front : take 256 x ≡ s .links = rw append-assoc (take-at (s .links) (tailOf s ++ rest) 256 n) in
+    ap (λ (b : Bool). built s mem b (eqb (bit (s .waiting)) 1) (take 256 x) (x at 256) (x at 257) (x at 258)) (eqb-bit (s .flag))
+    ∙ ap (λ (b : Bool). built s mem (s .flag) b (take 256 x) (x at 256) (x at 257) (x at 258)) (eqb-bit (s .waiting))
+    ∙ ap (λ (l : List ℕ). built s mem (s .flag) (s .waiting) l (x at 256) (x at 257) (x at 258)) front
+    ∙ ap (λ (v : ℕ). built s mem (s .flag) (s .waiting) (s .links) v (x at 257) (x at 258)) (behind (s .links) (tailOf s) rest 0 n)
+    ∙ ap (λ (v : ℕ). built s mem (s .flag) (s .waiting) (s .links) (s .«ra_low») v (x at 258)) (behind (s .links) (tailOf s) rest 1 n)
+    ∙ ap (λ (v : ℕ). built s mem (s .flag) (s .waiting) (s .links) (s .«ra_low») (s .«ra_high») v) (behind (s .links) (tailOf s) rest 2 n)
 
 -- a machine's words hold 256 links
 pub full-links : (s : Rules.State) → length (s .links) ≤ 256 → length (codeOf s .links) ≡ 256
@@ -69,7 +79,7 @@ words-machine s rest c few =
 
 -- any words are a clean machine
 pub words-clean : (ws mem : List ℕ) → Clean (stateFrom ws mem)
-words-clean ws mem = record { canonical = own-canonical _ _ _ _ _ _ _ _; flagged = record { bit = bit-le (eqb (ws at 7) 1) } }
+words-clean ws mem = record { canonical = own-canonical _ _ _ _ _ _ _ _ _ _ _; flagged = record { bit = bit-le (eqb (ws at 7) 1) } }
 
 -- Runs and resumes.
 
@@ -139,7 +149,7 @@ left-machine t ws mem c after words = go (callWords t ws mem c) refl
         let fine : Ok (stateOk t s) = ended-passes t s₀ c o k s (g .table) (g .state) (g .answers) in
         let few = state-limits t s fine .few in
         let clean : Clean s = subst (λ (a : Run.Answer). Clean (left s₀ a)) (g .answers) (answer-clean t s₀ c (words-clean ws mem)) in
-        rw (m, w) (words-machine s (drop 267 ws) clean few)
+        rw (m, w) (words-machine s (drop 270 ws) clean few)
 
 -- a resume keeps memory
 pub resumed-memory : (t ws mem : List ℕ) (x : ℕ) → mem ≡ left (stateFrom ws mem) (callWords t ws mem (resumes x)) .core .mem
@@ -184,14 +194,14 @@ pub begun-machine : (k : Mode) (t lent fs : List ℕ) (x : ℕ) (ws after words 
 begun-machine k t lent fs x ws after words m w s h =
     let g = begun-sound k t lent fs x ws s h in
     let m′ : after ≡ s .core .mem = m ∙ ap (λ (a : Start.Started). memoryBegun a lent) h in
-    let w′ : words ≡ wordsFrom (codeOf s) ++ drop 267 ws = w ∙ ap (λ (a : Start.Started). wordsBegun a ws) h in
-    rw (m′, w′) (words-machine s (drop 267 ws) (g .clean) (state-limits t s (g .state) .few))
+    let w′ : words ≡ wordsFrom (codeOf s) ++ drop 270 ws = w ∙ ap (λ (a : Start.Started). wordsBegun a ws) h in
+    rw (m′, w′) (words-machine s (drop 270 ws) (g .clean) (state-limits t s (g .state) .few))
 
 -- a restore of a host that wakes a machine is the rules' restore
 pub woken-wakes : (t file : List ℕ) (build : ℕ) (fs lent ws : List ℕ) (s : Rules.State) → restoreWords t file build fs lent ws ≡ woken s
     → restoreOf t file build fs lent ≡ woken s
 unfolding restoreWords if
-woken-wakes t file build fs lent ws s = go (tableOk t) refl (ltb (length ws) 267) refl
+woken-wakes t file build fs lent ws s = go (tableOk t) refl (ltb (length ws) 270) refl
   where
     mark : Snapshot.Restored → ℕ
     mark (woken s) = 1
@@ -200,7 +210,7 @@ woken-wakes t file build fs lent ws s = go (tableOk t) refl (ltb (length ws) 267
     unwakes : (e : Refusal) → unwoken e ≡ woken s → ⊥
     unwakes e h = let z : _≡_ {A = ℕ} 0 1 = ap mark h in omega arith
 
-    go : (a : Bool) → tableOk t ≡ a → (b : Bool) → ltb (length ws) 267 ≡ b → restoreWords t file build fs lent ws ≡ woken s
+    go : (a : Bool) → tableOk t ≡ a → (b : Bool) → ltb (length ws) 270 ≡ b → restoreWords t file build fs lent ws ≡ woken s
         → restoreOf t file build fs lent ≡ woken s
     go true p false q h = rw (p, q) at h
     go true p true q h = absurd (unwakes badState (rw (p, q) at h))
@@ -221,5 +231,5 @@ pub woken-machine : (t file : List ℕ) (build : ℕ) (fs lent ws after words : 
 woken-machine t file build fs lent ws after words m w s h =
     let g = woken-sound t file build fs lent s (woken-wakes t file build fs lent ws s h) in
     let m′ : after ≡ s .core .mem = m ∙ ap (λ (a : Snapshot.Restored). memoryWoken a lent) h in
-    let w′ : words ≡ wordsFrom (codeOf s) ++ drop 267 ws = w ∙ ap (λ (a : Snapshot.Restored). wordsAfter a ws) h in
-    rw (m′, w′) (words-machine s (drop 267 ws) (g .clean) (state-limits t s (g .state) .few))
+    let w′ : words ≡ wordsFrom (codeOf s) ++ drop 270 ws = w ∙ ap (λ (a : Snapshot.Restored). wordsAfter a ws) h in
+    rw (m′, w′) (words-machine s (drop 270 ws) (g .clean) (state-limits t s (g .state) .few))

@@ -15,7 +15,7 @@ use Rattle.rules.specs.Alike.{AreWords, Plain}
 use Rattle.rules.specs.Claim.{Write, toIA, toMemory, toRegister}
 use Rattle.rules.specs.Run.{Call, resumes, runs}
 use Rattle.rules.specs.Snapshot as Snapshot
-use Rattle.rules.specs.Snapshot.{awakened, fileLength, fileOf, filled, restoreOf, roomAfter, woken, writeOf}
+use Rattle.rules.specs.Snapshot.{awakened, fileLength, fileOf, newForm, filled, restoreOf, roomAfter, woken, writeOf}
 use Rattle.rules.specs.State as Rules
 use Rattle.rules.specs.State.{Link}
 use Rattle.rules.specs.Table.{freshCount, freshIndex}
@@ -61,8 +61,9 @@ words-plain ws mem build h b =
       build-word = b;
       memory-words = h .memory;
       own-words =
-          areWords-own (ws at 0) (ws at 1) (ws at 2) (ws at 3) (ws at 4) (ws at 5) (ws at 6) _ (h .state .below 0) (h .state .below 1) (h .state .below 2)
-          (h .state .below 3) (h .state .below 4) (h .state .below 5) (h .state .below 6) (omega (arith, bit-le (eqb (ws at 7) 1)));
+          areWords-own (ws at 0) (ws at 1) (ws at 2) (ws at 3) (ws at 4) (ws at 5) (ws at 6) _ (ws at 267) (ws at 268) (ws at 269) (h .state .below 0) (h .state .below 1) (h .state .below 2)
+          (h .state .below 3) (h .state .below 4) (h .state .below 5) (h .state .below 6) (omega (arith, bit-le (eqb (ws at 7) 1))) (h .state .below 267)
+          (h .state .below 268) (h .state .below 269);
       own-layout = refl;
       flag-bit = bit-le (eqb (ws at 7) 1);
     }
@@ -104,23 +105,23 @@ module _ (t ws mem : List ℕ) (build : ℕ) (room : List ℕ) (h : Checked t ws
       links-length (ws at 10) (linksLent ws)
       (length-take-le 256 (drop 11 ws) (simp length-drop (omega (arith, lawful-length ws (h .is-state)))))
 
-  file-length : length (fileOf t (stateFrom ws mem) build) ≡ fileLength (length mem) (ws at 10) (freshCount t)
-  file-length = length-fileOf t (stateFrom ws mem) build ∙ ap (λ (k : ℕ). fileLength (length mem) k (freshCount t)) link-count
+  file-length : length (fileOf t (stateFrom ws mem) build) ≡ fileLength newForm (length mem) (ws at 10) (freshCount t)
+  file-length = length-fileOf t (stateFrom ws mem) build ∙ ap (λ (k : ℕ). fileLength newForm (length mem) k (freshCount t)) link-count
 
   -- with room enough the file is written
-  fits-written : fileLength (length mem) (ws at 10) (freshCount t) ≤ length room
+  fits-written : fileLength newForm (length mem) (ws at 10) (freshCount t) ≤ length room
       → writeOf t (stateFrom ws mem) build room
-      ≡ filled (fileOf t (stateFrom ws mem) build ++ drop (fileLength (length mem) (length (stateFrom ws mem .links)) (freshCount t)) room)
+      ≡ filled (fileOf t (stateFrom ws mem) build ++ drop (fileLength newForm (length mem) (length (stateFrom ws mem .links)) (freshCount t)) room)
   unfolding writeOf if
   fits-written l =
-      rw (test-true _ (h .table), test-true _ (h .state), le-ltb (length room) (fileLength (length mem) (length (stateFrom ws mem .links)) (freshCount t)) (rw link-count l))
+      rw (test-true _ (h .table), test-true _ (h .state), le-ltb (length room) (fileLength newForm (length mem) (length (stateFrom ws mem .links)) (freshCount t)) (rw link-count l))
 
 -- The round trip.
 
 module _ (t ws mem : List ℕ) (g : Holds t ws mem) (build : ℕ) (b : build < 2 ^ 32) (room : List ℕ) (r : ℕ) (after : List ℕ)
-    (wrote : HostWrites t ws mem build room r after) (fits : fileLength (length mem) (ws at 10) (freshCount t) ≤ length room) where
+    (wrote : HostWrites t ws mem build room r after) (fits : fileLength newForm (length mem) (ws at 10) (freshCount t) ≤ length room) where
   wrote-file :
-      after ≡ fileOf t (stateFrom ws mem) build ++ drop (fileLength (length mem) (length (stateFrom ws mem .links)) (freshCount t)) room
+      after ≡ fileOf t (stateFrom ws mem) build ++ drop (fileLength newForm (length mem) (length (stateFrom ws mem .links)) (freshCount t)) room
   wrote-file =
       wrote .bytes ∙ ap (λ (w : Snapshot.Written). roomAfter w room) (written-is t ws mem build room (g .checked) ∙ fits-written t ws mem build room (g .checked) fits)
 
@@ -134,7 +135,7 @@ module _ (t ws mem : List ℕ) (g : Holds t ws mem) (build : ℕ) (b : build < 2
       ∙ ap (λ (w : Snapshot.Written). fileNumber w (length (fileOf t (stateFrom ws mem) build))) (written-is t ws mem build room (g .checked) ∙ wrote-filled)
 
   module _ (front fs lent room′ : List ℕ) (n : ℕ) (mem′ ws′ : List ℕ) (supply : length fs ≡ freshCount t) (lending : length lent ≡ length mem)
-      (space : 267 ≤ length room′) (restored : HostRestores t (front ++ take r after) build fs lent room′ n mem′ ws′) where
+      (space : 270 ≤ length room′) (restored : HostRestores t (front ++ take r after) build fs lent room′ n mem′ ws′) where
     wakes : restoreOf t (front ++ take r after) build fs lent ≡ woken (awakened t fs (stateFrom ws mem))
     wakes =
         rw wrote-length
@@ -142,7 +143,7 @@ module _ (t ws mem : List ℕ) (g : Holds t ws mem) (build : ℕ) (b : build < 2
 
     host-wakes : restoreWords t (front ++ take r after) build fs lent room′ ≡ woken (awakened t fs (stateFrom ws mem))
     unfolding restoreWords if
-    host-wakes = rw (test-true _ (g .checked .table), le-ltb (length room′) 267 space) wakes
+    host-wakes = rw (test-true _ (g .checked .table), le-ltb (length room′) 270 space) wakes
 
     zero-told : n ≡ 0
     zero-told = restored .number ∙ ap wokenNumber host-wakes

@@ -68,9 +68,9 @@ host-start-claims k t lent fs x ws n mem words h = go (startWords k t lent fs x 
 
 words-agree : (t lent fs : List ℕ) (x : ℕ) (ws : List ℕ) → StartsAgree t lent (startWords plain t lent fs x ws) (startWords warm t lent fs x ws)
 unfolding startWords if
-words-agree t lent fs x ws = go (tableOk t) refl (ltb (length ws) 267) refl
+words-agree t lent fs x ws = go (tableOk t) refl (ltb (length ws) 270) refl
   where
-    go : (a : Bool) → tableOk t ≡ a → (b : Bool) → ltb (length ws) 267 ≡ b
+    go : (a : Bool) → tableOk t ≡ a → (b : Bool) → ltb (length ws) 270 ≡ b
         → StartsAgree t lent (startWords plain t lent fs x ws) (startWords warm t lent fs x ws)
     go false p b q = rw p refl
     go true p true q = rw (p, q) refl

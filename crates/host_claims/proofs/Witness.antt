@@ -38,7 +38,7 @@ abbrev first : Rules.State
 first = begins reference 0
 
 abbrev room : List ℕ
-room = replicate 267 0
+room = replicate 270 0
 
 -- the plain start, in 256 words of 7, with room for its state
 starts : startWords plain reference (replicate 256 7) [] 0 room ≡ begun first
@@ -49,26 +49,26 @@ memory-small : Ok (allWords (first .core .mem))
 unfolding allWords _and_ Ok started loaded refreshed supplied filled constants workings freshCount startWord
 memory-small = tt
 
-state-small : Ok (allWords (wordsFrom (codeOf first) ++ drop 267 room))
+state-small : Ok (allWords (wordsFrom (codeOf first) ++ drop 270 room))
 unfolding allWords _and_ Ok started loaded refreshed supplied filled constants workings freshCount startWord section4
 state-small = tt
 
-reference-begun : HostStarts plain reference (replicate 256 7) [] 0 room 0 (first .core .mem) (wordsFrom (codeOf first) ++ drop 267 room)
+reference-begun : HostStarts plain reference (replicate 256 7) [] 0 room 0 (first .core .mem) (wordsFrom (codeOf first) ++ drop 270 room)
 reference-begun =
     record {
       number = rw starts;
       memory = rw starts;
       state = rw starts;
-      machine = begun-machine plain reference (replicate 256 7) [] 0 room (first .core .mem) (wordsFrom (codeOf first) ++ drop 267 room) (rw starts) (rw starts);
+      machine = begun-machine plain reference (replicate 256 7) [] 0 room (first .core .mem) (wordsFrom (codeOf first) ++ drop 270 room) (rw starts) (rw starts);
       memory-words = all-words _ memory-small;
       state-words = all-words _ state-small;
     }
 
 -- with WA written by the host
-pub reference-held : Held reference (wordsWritten (wordsFrom (codeOf first) ++ drop 267 room) (toRegister wa 7 ∷ [])) (first .core .mem)
+pub reference-held : Held reference (wordsWritten (wordsFrom (codeOf first) ++ drop 270 room) (toRegister wa 7 ∷ [])) (first .core .mem)
 reference-held =
     record {
-      first-words = wordsFrom (codeOf first) ++ drop 267 room;
+      first-words = wordsFrom (codeOf first) ++ drop 270 room;
       first-memory = first .core .mem;
       begun = byStart plain (replicate 256 7) [] 0 room reference-begun;
       calls = [];

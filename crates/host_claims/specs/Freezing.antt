@@ -37,7 +37,7 @@ pub record HostWrites (t ws mem : List ℕ) (build : ℕ) (room : List ℕ) (r :
 -- 30, then 31 for too little room for a state, then what the rules restore; of the lent state only its length counts
 unfoldable pub restoreWords : List ℕ → List ℕ → ℕ → List ℕ → List ℕ → List ℕ → Snapshot.Restored
 restoreWords t file build fs lent ws =
-    if (not (tableOk t)) (unwoken badTable) (if (ltb (length ws) 267) (unwoken badState) (restoreOf t file build fs lent))
+    if (not (tableOk t)) (unwoken badTable) (if (ltb (length ws) 270) (unwoken badState) (restoreOf t file build fs lent))
 
 abbrev pub wokenNumber : Snapshot.Restored → ℕ
 wokenNumber (woken s) = 0
@@ -45,7 +45,7 @@ wokenNumber (unwoken e) = refusalNumber e
 
 -- the lent state afterwards: the woken machine's words in front, or as it was
 abbrev pub wordsAfter : Snapshot.Restored → List ℕ → List ℕ
-wordsAfter (woken s) ws = wordsFrom (codeOf s) ++ drop 267 ws
+wordsAfter (woken s) ws = wordsFrom (codeOf s) ++ drop 270 ws
 wordsAfter (unwoken e) ws = ws
 
 -- restore's promise to a host: the number, the lent memory, the lent state's words, that these are the woken machine, and that all are words

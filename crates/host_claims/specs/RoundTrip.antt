@@ -8,7 +8,7 @@ use mathlib.Core.List.{List, [], _∷_, _++_}
 use lib.ListN.{length, take}
 use Rattle.base.specs.Lists.{_at_}
 use Rattle.rules.specs.Table.{freshCount, freshIndex}
-use Rattle.rules.specs.Snapshot.{fileLength}
+use Rattle.rules.specs.Snapshot.{fileLength, newForm}
 use Rattle.rules.specs.Alike.{SameButFresh}
 use Rattle.rules.specs.Claim.{Write, toIA, toMemory, toRegister}
 use Rattle.lent.specs.Lent.{stateFrom}
@@ -56,9 +56,9 @@ pub record Woken (t ws mem fs : List ℕ) (n : ℕ) (mem′ ws′ : List ℕ) : 
 unfoldable pub HostRoundTrip : Type 0
 HostRoundTrip =
     (t ws mem : List ℕ) → Held t ws mem → (build : ℕ) → build < 2 ^ 32 → (room : List ℕ) (r : ℕ) (after : List ℕ)
-    → HostWrites t ws mem build room r after → fileLength (length mem) (ws at 10) (freshCount t) ≤ length room
-    → (r ≡ fileLength (length mem) (ws at 10) (freshCount t))
-    × ((front fs lent room′ : List ℕ) (n : ℕ) (mem′ ws′ : List ℕ) → length fs ≡ freshCount t → length lent ≡ length mem → 267 ≤ length room′
+    → HostWrites t ws mem build room r after → fileLength newForm (length mem) (ws at 10) (freshCount t) ≤ length room
+    → (r ≡ fileLength newForm (length mem) (ws at 10) (freshCount t))
+    × ((front fs lent room′ : List ℕ) (n : ℕ) (mem′ ws′ : List ℕ) → length fs ≡ freshCount t → length lent ≡ length mem → 270 ≤ length room′
     → HostRestores t (front ++ take r after) build fs lent room′ n mem′ ws′ → Woken t ws mem fs n mem′ ws′)
 
 -- machines that pass and differ only in fresh words: the writer's answers are equal, and so are the bytes

@@ -39,7 +39,7 @@ callNumber nowhere = 0
 -- the lent state afterwards: the words of the state that is left in front, or as it was
 abbrev pub wordsLeft : Run.Answer → List ℕ → List ℕ
 wordsLeft (refused e) ws = ws
-wordsLeft (ended o k s) ws = wordsFrom (codeOf s) ++ drop 267 ws
+wordsLeft (ended o k s) ws = wordsFrom (codeOf s) ++ drop 270 ws
 wordsLeft nowhere ws = ws
 
 -- run's promise to a host: number and steps, the lent memory, the lent state's words, that these are the state that the rules leave, and that
@@ -63,14 +63,14 @@ pub record HostResumes (t ws mem : List ℕ) (c : Call) (r : ℕ) (words : List 
 -- 30, then 31 for too little room for a state, then what the rules start in this mode; of the lent state only its length counts
 unfoldable pub startWords : Mode → List ℕ → List ℕ → List ℕ → ℕ → List ℕ → Start.Started
 startWords k t lent fs x ws =
-    if (not (tableOk t)) (unbegun badTable) (if (ltb (length ws) 267) (unbegun badState) (startOf k t lent fs x))
+    if (not (tableOk t)) (unbegun badTable) (if (ltb (length ws) 270) (unbegun badState) (startOf k t lent fs x))
 
 abbrev pub startNumber : Start.Started → ℕ
 startNumber (begun s) = 0
 startNumber (unbegun e) = refusalNumber e
 
 abbrev pub wordsBegun : Start.Started → List ℕ → List ℕ
-wordsBegun (begun s) ws = wordsFrom (codeOf s) ++ drop 267 ws
+wordsBegun (begun s) ws = wordsFrom (codeOf s) ++ drop 270 ws
 wordsBegun (unbegun e) ws = ws
 
 -- start's promise to a host, plain or warm [02 Wish 6]: the number, the lent memory, the lent state's words, that these are the started machine,

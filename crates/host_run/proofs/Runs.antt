@@ -51,7 +51,7 @@ module _ (t ws mem : List ℕ) (k : ℕ) where
         }
 
     -- an ending, with the state's words put in front; a refusal, with the words as they were
-    pub host-ended : (n : ℕ) (words : List ℕ) → n ≡ Machine.reportNumber (Machine.reportOf a) → n < 30 → words ≡ wordsFrom c ++ drop 267 ws → Known after
+    pub host-ended : (n : ℕ) (words : List ℕ) → n ≡ Machine.reportNumber (Machine.reportOf a) → n < 30 → words ≡ wordsFrom c ++ drop 270 ws → Known after
         → Known words → HostRuns t ws mem (runs k) (upper n + i) after words
     host-ended n words q l w y z =
         let h = by-words in

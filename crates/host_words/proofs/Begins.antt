@@ -43,7 +43,7 @@ module _ (k : Mode) (t lent fs : List ℕ) (x : ℕ) (ws : List ℕ) where
         state-words = are-words words z;
       }
 
-  pub host-unstarted : length ws < 267 → Known lent → Known ws → HostStarts k t lent fs x ws (unreadNumber t) lent ws
+  pub host-unstarted : length ws < 270 → Known lent → Known ws → HostStarts k t lent fs x ws (unreadNumber t) lent ws
   unfolding unreadNumber startWords
   host-unstarted a y z = by-table (tableOk t) refl
     where
@@ -56,7 +56,7 @@ module _ (k : Mode) (t lent fs : List ℕ) (x : ℕ) (ws : List ℕ) where
           told-start (unreadNumber t) lent ws (if-no _ _ _ e ∙ rw u) (rw u) (rw u) y z
 
   -- room enough: what the rules start
-  start-words : 267 ≤ length ws → startWords k t lent fs x ws ≡ startOf k t lent fs x
+  start-words : 270 ≤ length ws → startWords k t lent fs x ws ≡ startOf k t lent fs x
   unfolding startWords
   start-words a = by-table (tableOk t) refl
     where
@@ -64,7 +64,7 @@ module _ (k : Mode) (t lent fs : List ℕ) (x : ℕ) (ws : List ℕ) where
       by-table true e = unless-yes _ _ _ e ∙ if-no _ _ _ (le-ltb _ _ a)
       by-table false e = unless-no _ _ _ e ∙ sym (start-table t _ fs x e)
 
-  module _ (a : Answer) (c : State) (after : List ℕ) (room : 267 ≤ length ws)
+  module _ (a : Answer) (c : State) (after : List ℕ) (room : 270 ≤ length ws)
       (g : Starting.Starts k t lent fs x (record { answer = a; state = c }) after) where
     started-number : (v : Answer) (y : Start.Started) (m : Rules.State) → Starting.startedBy (Starting.verdictOf v) m ≡ y → verdictNumber (Starting.verdictOf v) ≡ startNumber y
     started-number starts.Begun y m e = ap startNumber e
@@ -78,13 +78,13 @@ module _ (k : Mode) (t lent fs : List ℕ) (x : ℕ) (ws : List ℕ) where
         let u = start-words room in
         told-start n after words (q ∙ started-number a _ _ (g .answer) ∙ rw u) (g .memory ∙ rw u) w y z
 
-    started-put : (n : ℕ) (words : List ℕ) → n ≡ verdictNumber (Starting.verdictOf a) → n ≡ 0 → words ≡ wordsFrom c ++ drop 267 ws
+    started-put : (n : ℕ) (words : List ℕ) → n ≡ verdictNumber (Starting.verdictOf a) → n ≡ 0 → words ≡ wordsFrom c ++ drop 270 ws
         → words ≡ wordsBegun (startWords k t lent fs x ws) ws
     started-put n words q z w = by-answer a (sym q ∙ z) (g .answer) ∙ rw (start-words room)
       where
         by-answer : (v : Answer) → verdictNumber (Starting.verdictOf v) ≡ 0 → Starting.startedBy (Starting.verdictOf v) (stateOf c after) ≡ startOf k t lent fs x → words ≡ wordsBegun (startOf k t lent fs x) ws
         by-answer starts.Begun h e =
-            w ∙ ap (λ (z : State). wordsFrom z ++ drop 267 ws) (g .state ∙ ap Starting.stateBegun (sym e)) ∙ ap (λ (z : Start.Started). wordsBegun z ws) e
+            w ∙ ap (λ (z : State). wordsFrom z ++ drop 270 ws) (g .state ∙ ap Starting.stateBegun (sym e)) ∙ ap (λ (z : Start.Started). wordsBegun z ws) e
         by-answer starts.BadTable h e = absurd (omega arith)
         by-answer starts.UnfitMemory h e = absurd (omega arith)
         by-answer starts.FreshCountOff h e = absurd (omega arith)
@@ -99,7 +99,7 @@ module _ (k : Mode) (t lent fs : List ℕ) (x : ℕ) (ws : List ℕ) where
         by-answer starts.FreshCountOff h e = ap (λ (z : Start.Started). wordsBegun z ws) e
 
     -- begun, with the state's words put in front; refused, with the words as they were
-    pub host-begun : (n : ℕ) (words : List ℕ) → n ≡ verdictNumber (Starting.verdictOf a) → n ≡ 0 → words ≡ wordsFrom c ++ drop 267 ws → Known after → Known words
+    pub host-begun : (n : ℕ) (words : List ℕ) → n ≡ verdictNumber (Starting.verdictOf a) → n ≡ 0 → words ≡ wordsFrom c ++ drop 270 ws → Known after → Known words
         → HostStarts k t lent fs x ws n after words
     host-begun n words q e w y z = host-started n words q (started-put n words q e w) y z
 

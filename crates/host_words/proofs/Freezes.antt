@@ -47,7 +47,7 @@ restored-number FreshCountOff s x e = ap wokenNumber e
 restored-number MemoryLengthOff s x e = ap wokenNumber e
 
 -- an answer of 0 is a woken machine, whose words are then in front; with any other the words stay
-words-woken : (x : Snapshot.Restored) (s : State) (ws words : List ℕ) → wokenNumber x ≡ 0 → s ≡ stateWoken x → words ≡ wordsFrom s ++ drop 267 ws
+words-woken : (x : Snapshot.Restored) (s : State) (ws words : List ℕ) → wokenNumber x ≡ 0 → s ≡ stateWoken x → words ≡ wordsFrom s ++ drop 270 ws
     → words ≡ wordsAfter x ws
 words-woken (woken m) s ws words z e h = h ∙ rw e
 words-woken (unwoken r) s ws words z e h = absurd (refused-number r z)
@@ -103,13 +103,13 @@ module _ (t file : List ℕ) (build : ℕ) (fs lent ws : List ℕ) where
 
   module _ (ok : tableOk t ≡ true) where
     -- 31
-    pub host-unwoken-words : length ws < 267 → Known lent → Known ws → HostRestores t file build fs lent ws 31 lent ws
+    pub host-unwoken-words : length ws < 270 → Known lent → Known ws → HostRestores t file build fs lent ws 31 lent ws
     unfolding restoreWords
     host-unwoken-words a y z =
         let u : restoreWords t file build fs lent ws ≡ unwoken badState = unless-yes _ _ _ ok ∙ if-yes _ _ _ (lt-ltb _ _ a) in
         told-so 31 lent ws (rw u) (rw u) (rw u) y z
 
-    module _ (r : Restored) (n : ℕ) (after : List ℕ) (room : 267 ≤ length ws) (done : Restores t file build fs lent r after)
+    module _ (r : Restored) (n : ℕ) (after : List ℕ) (room : 270 ≤ length ws) (done : Restores t file build fs lent r after)
         (e : n ≡ numberRestored (r .answer)) where
       same-number : n ≡ wokenNumber (restoreOf t file build fs lent)
       same-number = e ∙ restored-number (r .answer) _ _ (done .answer)
@@ -119,7 +119,7 @@ module _ (t file : List ℕ) (build : ℕ) (fs lent ws : List ℕ) where
       rules-restore = unless-yes _ _ _ ok ∙ if-no _ _ _ (le-ltb _ _ room)
 
       -- woken, and the state's words put in front
-      pub host-woken : (words : List ℕ) → n ≡ 0 → words ≡ wordsFrom (r .state) ++ drop 267 ws → Known after → Known words
+      pub host-woken : (words : List ℕ) → n ≡ 0 → words ≡ wordsFrom (r .state) ++ drop 270 ws → Known after → Known words
           → HostRestores t file build fs lent ws n after words
       host-woken words z h below-memory below-words =
           told-so n after words (rw rules-restore same-number) (rw rules-restore (done .memory))

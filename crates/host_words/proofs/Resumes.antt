@@ -37,7 +37,7 @@ module _ (t ws mem : List ℕ) (x : ℕ) where
     by-words = rw e at g
 
     -- an ending, with the state's words put in front; a refusal, with the words as they were
-    pub host-went-on : (n : ℕ) (words : List ℕ) → n ≡ Machine.reportNumber (Machine.reportOf a) → n < 30 → words ≡ wordsFrom c ++ drop 267 ws → Known mem
+    pub host-went-on : (n : ℕ) (words : List ℕ) → n ≡ Machine.reportNumber (Machine.reportOf a) → n < 30 → words ≡ wordsFrom c ++ drop 270 ws → Known mem
         → Known words → HostResumes t ws mem (resumes x) n words
     host-went-on n words q l w y z =
         let h = by-words in

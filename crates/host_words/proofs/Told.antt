@@ -68,13 +68,13 @@ module _ (x : Run.Answer) (r : Machine.Report) (k : ℕ) (m : Rules.State) (e : 
       by-report (Machine.refuses z) h = ap callNumber h
 
   module _ (s c : State) (ws words : List ℕ) where
-    put-words : isEnding r ≡ true → c ≡ Machine.codeAfter s x → words ≡ wordsFrom c ++ drop 267 ws → words ≡ wordsLeft x ws
+    put-words : isEnding r ≡ true → c ≡ Machine.codeAfter s x → words ≡ wordsFrom c ++ drop 270 ws → words ≡ wordsLeft x ws
     unfolding isEnding
     put-words t h w = by-report r t e
       where
         by-report : (y : Machine.Report) → isEnding y ≡ true → Machine.answeredBy y k m ≡ x → words ≡ wordsLeft x ws
         by-report (Machine.ends o) q g =
-            w ∙ ap (λ (z : State). wordsFrom z ++ drop 267 ws) (h ∙ ap (Machine.codeAfter s) (sym g)) ∙ ap (λ (z : Run.Answer). wordsLeft z ws) g
+            w ∙ ap (λ (z : State). wordsFrom z ++ drop 270 ws) (h ∙ ap (Machine.codeAfter s) (sym g)) ∙ ap (λ (z : Run.Answer). wordsLeft z ws) g
         by-report (Machine.refuses z) q g = absurd (failed (true-ok _ q))
 
   keep-words : (ws : List ℕ) → isEnding r ≡ false → ws ≡ wordsLeft x ws
@@ -93,7 +93,7 @@ module _ (t ws mem : List ℕ) (call : Call) (ok : lawful ws ≡ true) (a : Ran.
 
   -- an ending, with the words of the state that is left put in front
   pub put : n < 30 → (c : State) (words : List ℕ) → c ≡ Machine.codeAfter (codeFrom ws) (answer t (stateFrom ws mem) call)
-      → words ≡ wordsFrom c ++ drop 267 ws → words ≡ wordsLeft (callWords t ws mem call) ws
+      → words ≡ wordsFrom c ++ drop 270 ws → words ≡ wordsLeft (callWords t ws mem call) ws
   put l c words h w =
       put-words _ (Machine.reportOf a) k m e (codeFrom ws) c ws words (sym (ending-below a) ∙ rw (sym q) (lt-ltb n 30 l)) h w
       ∙ rw (words-answer t ws mem call ok)

@@ -68,7 +68,7 @@ pub fn unread(table: &[u32]) -> u32
 }
 
 // 0: the program stands at the start of section 4, its words and the host's fresh words in memory, all other words 0, or as lent by a warm start,
-// its 267 words of state in what is lent, the host's argument in WA. 30: the table does not pass its check. 31: fewer words are lent than a state
+// its 270 words of state in what is lent, the host's argument in WA. 30: the table does not pass its check. 31: fewer words are lent than a state
 // has. 10: the length of memory. 43: the count of fresh words.
 pub fn start_words(
     mode: Mode,
@@ -129,7 +129,7 @@ pub fn write_words(table: &[u32], memory: &[u32], state: &[u32], build: u32, fil
     number_written(w)
 }
 
-// 0: the machine at the end of the file is woken, its memory and its 267 words of state in what is lent, with the host's fresh words.
+// 0: the machine at the end of the file is woken, its memory and its 270 words of state in what is lent, with the host's fresh words.
 // 30: the table does not pass its check. 31: fewer words are lent than a state has. 40 the trailer, 41 another program or build,
 // 42 the frozen state, 43 the count of fresh words, 44 the length of memory.
 pub fn restore_words(

@@ -18,6 +18,7 @@ use Rattle.rules.specs.Table.{size, constants, workings, freshCount, externals,
 use Rattle.rules.specs.Check.{smaller, among, registerOk, valueOk, operandOk, thirdOk, fieldsOk, apart, outside, reaches, isOutside, startsSection, allExits, exitList, iffs, valueKnown, unlike, distinctIffs, switchList, exitNumberOk, faultAt, rulesHold, sectionsOk, freshOk, countsOk, limitsOk, layoutOk, tableOk}
 use Rattle.language.specs.Text.{between, parts, lines, labelEnd, operationStart, operationEnd, operandStart, tailOf, fieldOf, isEmpty, symbolOf, numberOf, registerOf, labelOf, labelFormed}
 use Rattle.language.specs.Operation.{operationNamed, operationIn, operationOf, isSkipped, isDivider, wantsLabel, isLabelless, barsLabel, formatsOf, hasText}
+use Rattle.language.specs.Decimal.{decimalOf, pointed}
 use Rattle.language.specs.Form.{singleForm, indexedForm, combinedForm, signedForm, markedForm, formOf, textsIn, writtenForms, hasComma, hasRemark, delimitedBy, quoted}
 use Rattle.language.specs.Card.{cardOf, holdsPlace, ofWords, isOneWord, wordCount, isExternal, openedPast, past, walk, cardsOf}
 use Rattle.language.specs.Symbol.{declaredSort, placedSort, sortAt, fieldsNamed, firstPlace, globalMeaning, meaning, allPlaced, above, pairs}
@@ -133,6 +134,21 @@ long n =
 pub operation-limit : limitsKept (deckOf (long 1021)) ∷ limitsKept (deckOf (long 1022)) ∷ [] ≡ true ∷ false ∷ []
 unfolding keptBy namedIn withRemainder lookUp operationBy walkBy _and_ _or_ if member same rows supplies suppliedOf textWords size constants workings freshCount externals section4 section5 section6 freshAt exitCount startWord tableLength field classAt value target1 target2 target3 executable bodyAt namesProcedure namesExternal callee declared smaller among registerOk valueOk operandOk thirdOk fieldsOk apart outside reaches isOutside startsSection allExits exitList iffs valueKnown unlike distinctIffs switchList exitNumberOk faultAt rulesHold sectionsOk freshOk countsOk limitsOk layoutOk tableOk between parts lines labelEnd operationStart operationEnd operandStart tailOf fieldOf isEmpty symbolOf numberOf registerOf labelOf labelFormed isSkipped isDivider wantsLabel isLabelless barsLabel formatsOf hasText singleForm indexedForm combinedForm signedForm markedForm formOf textsIn writtenForms hasComma hasRemark delimitedBy quoted holdsPlace ofWords isOneWord wordCount isExternal openedPast past declaredSort placedSort sortAt fieldsNamed firstPlace globalMeaning meaning allPlaced above pairs registerKind takes valueWithin displaced symbolBy summed subtracted signedWithin operandOf operandsOf outcomes symbolAt symbolsFrom symbolsOf firstOperand rowEntry entryIn isFresh wordsIn startsIn freshIn countsIn header image deckWith deckIn bytesPrinted lineShort labelReadable formsOf operandsFormed remarkThere textDelimited inItsSection isLabelled labelThere labelWanted labelOnce noSurplus operandsFit commaThere textThere symbolsDefined procedureDeclared routineDeclared countKnown isJudged looseFault placeFault shapeFault conditions faultOf firstFault isClosed isComplete isWithin limitsKept finished judged leftOf
 operation-limit = ap (λ (f : List ℕ → Bool). f (long 1021) ∷ f (long 1022) ∷ []) (fun-ext kept-by)
+
+-- 8,128 words and 8,130, within the bytes of a text
+abbrev wordy : ℕ → List ℕ
+wordy n =
+    typedLines (" SEC" ∷ " SEC" ∷ " SEC" ∷ []) ++ repeated n (bytes " DRC 0.\n")
+    ++ typedLines (" SEC" ∷ " SEC" ∷ "START BRN START" ∷ " SEC" ∷ " ERB 1,A" ∷ " SEC" ∷ " ERB 1,A" ∷ " END" ∷ [])
+
+pub word-limit : limitsKept (deckOf (wordy 4064)) ∷ limitsKept (deckOf (wordy 4065)) ∷ [] ≡ true ∷ false ∷ []
+unfolding keptBy namedIn withRemainder lookUp operationBy walkBy _and_ _or_ if member same rows supplies suppliedOf textWords size constants workings freshCount externals section4 section5 section6 freshAt exitCount startWord tableLength field classAt value target1 target2 target3 executable bodyAt namesProcedure namesExternal callee declared smaller among registerOk valueOk operandOk thirdOk fieldsOk apart outside reaches isOutside startsSection allExits exitList iffs valueKnown unlike distinctIffs switchList exitNumberOk faultAt rulesHold sectionsOk freshOk countsOk limitsOk layoutOk tableOk between parts lines labelEnd operationStart operationEnd operandStart tailOf fieldOf isEmpty symbolOf numberOf registerOf labelOf labelFormed isSkipped isDivider wantsLabel isLabelless barsLabel formatsOf hasText singleForm indexedForm combinedForm signedForm markedForm formOf textsIn writtenForms hasComma hasRemark delimitedBy quoted holdsPlace ofWords isOneWord wordCount isExternal openedPast past declaredSort placedSort sortAt fieldsNamed firstPlace globalMeaning meaning allPlaced above pairs registerKind takes valueWithin displaced symbolBy summed subtracted signedWithin operandOf operandsOf outcomes symbolAt symbolsFrom symbolsOf firstOperand rowEntry entryIn isFresh wordsIn startsIn freshIn countsIn header image deckWith deckIn bytesPrinted lineShort labelReadable formsOf operandsFormed remarkThere textDelimited inItsSection isLabelled labelThere labelWanted labelOnce noSurplus operandsFit commaThere textThere symbolsDefined procedureDeclared routineDeclared countKnown isJudged looseFault placeFault shapeFault conditions faultOf firstFault isClosed isComplete isWithin limitsKept finished judged leftOf
+word-limit = ap (λ (f : List ℕ → Bool). f (wordy 4064) ∷ f (wordy 4065) ∷ []) (fun-ext kept-by)
+
+-- the answer to the longer one is 9, though there is no room either
+pub words-refused : told (answerOf (wordy 4065) 0) ≡ 9 ∷ 0 ∷ []
+unfolding answerBy namedIn withRemainder lookUp operationBy walkBy _and_ _or_ if member same rows supplies suppliedOf textWords size constants workings freshCount externals section4 section5 section6 freshAt exitCount startWord tableLength field classAt value target1 target2 target3 executable bodyAt namesProcedure namesExternal callee declared smaller among registerOk valueOk operandOk thirdOk fieldsOk apart outside reaches isOutside startsSection allExits exitList iffs valueKnown unlike distinctIffs switchList exitNumberOk faultAt rulesHold sectionsOk freshOk countsOk limitsOk layoutOk tableOk between parts lines labelEnd operationStart operationEnd operandStart tailOf fieldOf isEmpty symbolOf numberOf registerOf labelOf labelFormed isSkipped isDivider wantsLabel isLabelless barsLabel formatsOf hasText singleForm indexedForm combinedForm signedForm markedForm formOf textsIn writtenForms hasComma hasRemark delimitedBy quoted holdsPlace ofWords isOneWord wordCount isExternal openedPast past declaredSort placedSort sortAt fieldsNamed firstPlace globalMeaning meaning allPlaced above pairs registerKind takes valueWithin displaced symbolBy summed subtracted signedWithin operandOf operandsOf outcomes symbolAt symbolsFrom symbolsOf firstOperand rowEntry entryIn isFresh wordsIn startsIn freshIn countsIn header image deckWith deckIn bytesPrinted lineShort labelReadable formsOf operandsFormed remarkThere textDelimited inItsSection isLabelled labelThere labelWanted labelOnce noSurplus operandsFit commaThere textThere symbolsDefined procedureDeclared routineDeclared countKnown isJudged looseFault placeFault shapeFault conditions faultOf firstFault isClosed isComplete isWithin limitsKept finished judged leftOf decimalOf pointed
+words-refused = ap told (answer-by (wordy 4065) 0)
 
 -- 32,769 bytes come before a fault in the first line, and count what follows END
 pub bytes-first :

@@ -156,7 +156,7 @@ undefinedNames =
     ∷ case 5 3 (deck [] ("THREE EQU LATER+1" ∷ "LATER EQU 2" ∷ []) [] [] ("START BRN START" ∷ []))
     ∷ case 5 3 (deck [] ("THREE EQU LATER" ∷ "LATER XYZ" ∷ []) [] [] ("START BRN START" ∷ []))
     ∷ case 5 3 (deck [] ("THREE EQU *" ∷ []) [] [] ("START BRN START" ∷ []))
-    ∷ case 5 3 (deck [] ("CFP$R EQU *" ∷ []) [] [] ("START BRN START" ∷ []))
+    ∷ case 5 3 (deck [] ("CFP$S EQU *" ∷ []) [] [] ("START BRN START" ∷ []))
     ∷ case 5 3 (deck [] ("CH$L$ EQU *" ∷ []) [] [] ("START BRN START" ∷ []))
     ∷ case 5 4 (deck [] [] ("CONST DAC NONE$" ∷ []) [] ("START BRN START" ∷ []))
     ∷ case 5 4 (deck [] [] ("CONST DBC NONE$" ∷ []) [] ("START BRN START" ∷ []))

@@ -12,7 +12,7 @@ use Rattle.states.specs.declared.State.{State}
 use Rattle.snap_core.specs.Buffers.{put}
 use Rattle.snap_core.proofs.Puts.{put-nil, put-put}
 use Rattle.snap_core.proofs.Freshening.{put-front}
-use Rattle.lent.specs.Lent.{headOf, wordsFrom}
+use Rattle.lent.specs.Lent.{headOf, tailOf, wordsFrom}
 
 -- one store is a put of one word
 put-store : (l : List ℕ) (a x : ℕ) → a + 1 ≤ length l → set l a x ≡ put l a (x ∷ [])
@@ -34,10 +34,14 @@ word-first l a ws = rw (add-zero a)
 pub word-last : (l : List ℕ) (a i : ℕ) (ws : List ℕ) → length ws ≤ i → put l (a + i) (drop i ws) ≡ l
 word-last l a i ws h = rw (drop-of-length-le ws h) (put-nil l (a + i))
 
--- the words before the links, then the links
-pub state-put : (ws : List ℕ) (s : State) (head one two : List ℕ) → length (s .links) ≡ 256 → head ≡ headOf s → one ≡ put ws 0 head
-    → two ≡ put one 11 (s .links) → two ≡ wordsFrom s ++ drop 267 ws
-state-put ws s head one two n h e f =
-    let size : length (headOf s ++ s .links) ≡ 267 = length-append (headOf s) (s .links) ∙ ap (λ (k : ℕ). 11 + k) n in
-    f ∙ rw (e, h) (put-put ws 0 (headOf s) (s .links) (omega arith)) ∙ put-front ws (headOf s ++ s .links)
+-- the words before the links, the links, then the words behind them
+pub state-put : (ws : List ℕ) (s : State) (head tail one two three : List ℕ) → length (s .links) ≡ 256 → head ≡ headOf s → tail ≡ tailOf s
+    → one ≡ put ws 0 head → two ≡ put one 11 (s .links) → three ≡ put two 267 tail → three ≡ wordsFrom s ++ drop 270 ws
+state-put ws s head tail one two three n h d e f g =
+    let front : length (headOf s ++ s .links) ≡ 267 = length-append (headOf s) (s .links) ∙ ap (λ (k : ℕ). 11 + k) n in
+    let size : length (headOf s ++ s .links ++ tailOf s) ≡ 270 =
+    length-append (headOf s ++ s .links) (tailOf s) ∙ ap (λ (k : ℕ). k + 3) front in
+    let two′ : two ≡ put ws 0 (headOf s ++ s .links) = f ∙ rw (e, h) (put-put ws 0 (headOf s) (s .links) (omega arith)) in
+    let seam : 267 ≡ 0 + length (headOf s ++ s .links) = omega (arith, front) in
+    g ∙ rw (two′, d, seam) (put-put ws 0 (headOf s ++ s .links) (tailOf s) (omega arith)) ∙ put-front ws (headOf s ++ s .links ++ tailOf s)
     ∙ ap (λ (k : ℕ). wordsFrom s ++ drop k ws) size

@@ -15,7 +15,7 @@ use Rattle.base.specs.Lists.{_at_}
 use Rattle.lent.specs.Lent.{lawful, linksLent}
 
 -- one link more
-pub links-next : (l ws : List ℕ) (i : ℕ) → i < 256 → length l ≡ 256 → 267 ≤ length ws → take i l ≡ take i (drop 11 ws)
+pub links-next : (l ws : List ℕ) (i : ℕ) → i < 256 → length l ≡ 256 → 270 ≤ length ws → take i l ≡ take i (drop 11 ws)
     → take (i + 1) (set l i (ws at (11 + i))) ≡ take (i + 1) (drop 11 ws)
 links-next l ws i b n h e =
     let s : i + 1 ≡ suc i = omega arith in
@@ -28,22 +28,22 @@ links-last l ws i a b n e =
     sym (take-all 256 l (omega arith)) ∙ rw s at e
 
 -- the words are too few, the flag is off, or the waiting word decides
-pub few-words : (ws : List ℕ) → length ws < 267 → false ≡ lawful ws
+pub few-words : (ws : List ℕ) → length ws < 270 → false ≡ lawful ws
 unfolding lawful _and_
-few-words ws h = rw (lt-leb 267 (length ws) h) refl
+few-words ws h = rw (lt-leb 270 (length ws) h) refl
 
-pub flag-off : (ws : List ℕ) → 267 ≤ length ws → 1 < ws at 7 → false ≡ lawful ws
+pub flag-off : (ws : List ℕ) → 270 ≤ length ws → 1 < ws at 7 → false ≡ lawful ws
 unfolding lawful _and_
-flag-off ws h k = rw (le-leb 267 (length ws) h, lt-leb (ws at 7) 1 k) refl
+flag-off ws h k = rw (le-leb 270 (length ws) h, lt-leb (ws at 7) 1 k) refl
 
-pub waiting-decides : (ws : List ℕ) → 267 ≤ length ws → ws at 7 ≤ 1 → leb (ws at 9) 1 ≡ lawful ws
+pub waiting-decides : (ws : List ℕ) → 270 ≤ length ws → ws at 7 ≤ 1 → leb (ws at 9) 1 ≡ lawful ws
 unfolding lawful _and_
-waiting-decides ws h k = rw (le-leb 267 (length ws) h, le-leb (ws at 7) 1 k) refl
+waiting-decides ws h k = rw (le-leb 270 (length ws) h, le-leb (ws at 7) 1 k) refl
 
 -- lawful words are enough
-lawful-first : (ws : List ℕ) → Ok (lawful ws) → Ok (leb 267 (length ws))
+lawful-first : (ws : List ℕ) → Ok (lawful ws) → Ok (leb 270 (length ws))
 unfolding lawful
 lawful-first ws h = and-l _ _ h
 
-pub lawful-enough : (ws : List ℕ) (b : Bool) → b ≡ lawful ws → not b ≡ false → 267 ≤ length ws
-lawful-enough ws b e h = ok-le 267 (length ws) (lawful-first ws (true-ok _ (sym e ∙ not-false b h)))
+pub lawful-enough : (ws : List ℕ) (b : Bool) → b ≡ lawful ws → not b ≡ false → 270 ≤ length ws
+lawful-enough ws b e h = ok-le 270 (length ws) (lawful-first ws (true-ok _ (sym e ∙ not-false b h)))

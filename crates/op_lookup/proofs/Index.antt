@@ -27,7 +27,7 @@ unfolding rows Ok _and_
 all-below = tt
 
 -- a row's number has a cell in the index
-pub number-below : (i : ℕ) → i < 89 → rowAt i .number < 1002
+pub number-below : (i : ℕ) → i < 106 → rowAt i .number < 1002
 number-below i h = ok-lt _ _ (every-at numbered noRow rows all-below i (rw rows-count h))
 
 -- an index of the first i rows
@@ -46,7 +46,7 @@ index-begun =
     }
 
 -- of one row more
-pub index-more : (i : ℕ) (cells : List ℕ) → i < 89 → IndexTo i cells → IndexTo (i + 1) (set cells (rowAt i .number) i)
+pub index-more : (i : ℕ) (cells : List ℕ) → i < 106 → IndexTo i cells → IndexTo (i + 1) (set cells (rowAt i .number) i)
 index-more i cells h x =
     let l : rowAt i .number < length cells = rw (x .size) (number-below i h) in
     record {
@@ -69,7 +69,7 @@ index-more i cells h x =
         getD-set-other cells (rowAt i .number) (rowAt k .number) i 0 u ∙ x .rows k d
 
 -- of all rows
-pub index-whole : (cells : List ℕ) → IndexTo 89 cells → IndexOf cells
+pub index-whole : (cells : List ℕ) → IndexTo 106 cells → IndexOf cells
 index-whole cells x = record { size = x .size; slots = λ n h. at n h (rowOfNumber n) refl }
   where
     at : (n : ℕ) → n < 1002 → (r : Lookup) → rowOfNumber n ≡ r → getD cells n 0 ≡ slotOf r
@@ -85,7 +85,7 @@ module _ (cells : List ℕ) (x : IndexOf cells) (n : ℕ) (h : n < 1002) where
     where
       go : (r : Lookup) → rowOfNumber n ≡ r → found.Unknown ≡ r
       go (found.Row j) q =
-          let p : j < 89 = rw (← rows-count) (number-exactly n j .0 q .0) in
+          let p : j < 106 = rw (← rows-count) (number-exactly n j .0 q .0) in
           let z : getD cells n 0 ≡ j = x .slots n h ∙ ap slotOf q in
           absurd (omega arith)
       go found.Unknown q = refl
@@ -103,7 +103,7 @@ past-index n h =
     sym (number-unknown n .1 (λ i g e. let l : rowAt i .number < 1002 = number-below i (rw (← rows-count) g) in omega arith))
 
 -- the number that the cells of row i of the constant table hold
-pub number-here : (t : List (List ℕ)) → t ≡ map cellsOf rows → (i n : ℕ) → i < 89
+pub number-here : (t : List (List ℕ)) → t ≡ map cellsOf rows → (i n : ℕ) → i < 106
     → n ≡ getD (getD t i []) 0 0 * 100 + getD (getD t i []) 1 0 → n ≡ rowAt i .number
 number-here t e i n h q =
     let c : getD t i [] ≡ cellsOf (rowAt i) = table-row t e i h in

@@ -83,27 +83,27 @@ answers-of t e a b c r h =
       row = λ i. (
         λ q.
             let p = h .row i .0 q in
-            let l : i < 89 = omega (arith, p .0, table-count t e) in
+            let l : i < 106 = omega (arith, p .0, table-count t e) in
             (rw rows-count l, rw (← table-row t e i l) (p .1)),
         λ p.
-            let l : i < 89 = rw (← rows-count) (p .0) in
+            let l : i < 106 = rw (← rows-count) (p .0) in
             h .row i .1 (
               omega (arith, l, table-count t e),
               rw (table-row t e i l) (p .1),
               λ j g w.
-                  let m : j < 89 = omega arith in
+                  let m : j < 106 = omega arith in
                   let z : j ≡ i = same-letters j i a b c (rw rows-count m) (p .0) (rw (← table-row t e j m) w) (p .1) in
                   omega arith,
             ),
       );
       unknown = (
         λ q i g w.
-            let l : i < 89 = rw (← rows-count) g in
+            let l : i < 106 = rw (← rows-count) g in
             h .unknown .0 q i (omega (arith, l, table-count t e)) (rw (table-row t e i l) w),
         λ u.
             h .unknown .1
             (λ i g w.
-            let l : i < 89 = omega (arith, g, table-count t e) in
+            let l : i < 106 = omega (arith, g, table-count t e) in
             u i (rw rows-count l) (rw (← table-row t e i l) w)),
       );
     }

@@ -45,6 +45,7 @@ pub fn code_word(code: u8) -> u32
         EQOP => format::EQOP,
         ADDR => format::ADDR,
         INTEGER => format::INTEGER,
+        REAL => format::REAL,
         OPT_OPV => format::OPT_OPV,
         OPT_VAL => format::OPT_VAL,
         OPT_INT => format::OPT_INT,

@@ -7,7 +7,7 @@ use ops::cells::*;
 use ops::table;
 
 // How many there are, and the type of the list.
-pub const COUNT: usize = 13;
+pub const COUNT: usize = 14;
 
 pub type Assemblies = [[u8; table::CELLS]; COUNT];
 
@@ -23,6 +23,7 @@ const LIST: Assemblies = [
     [12, 1, b'E', b'Q', b'U', EQOP, NONE, NONE, NO_CLASS],
     [11, 1, b'D', b'A', b'C', ADDR, NONE, NONE, NO_CLASS],
     [11, 2, b'D', b'I', b'C', INTEGER, NONE, NONE, NO_CLASS],
+    [11, 3, b'D', b'R', b'C', REAL, NONE, NONE, NO_CLASS],
     [11, 5, b'D', b'B', b'C', VAL, NONE, NONE, NO_CLASS],
     [11, 4, b'D', b'T', b'C', NONE, NONE, NONE, NO_CLASS],
 ];

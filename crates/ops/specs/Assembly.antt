@@ -7,12 +7,12 @@ use Prim.Native.String.{String}
 use mathlib.Core.List.{List, [], _∷_}
 use lib.ListN.{getD}
 use Rattle.ops.specs.Class.{none, classCode}
-use Rattle.ops.specs.Format.{Format, NONE, VAL, INT, PTYP, EQOP, ADDR, INTEGER, formatCode}
+use Rattle.ops.specs.Format.{Format, NONE, VAL, INT, PTYP, EQOP, ADDR, INTEGER, REAL, formatCode}
 use Rattle.ops.specs.Ops.{letterOf}
 
 -- The assembly operations [M 11] [M 12] [M 13] [M 14].
 pub data Assembly : Type 0 where
-  SEC END TTL EJC EXP INP INR GLB EQU DAC DIC DBC DTC : Assembly
+  SEC END TTL EJC EXP INP INR GLB EQU DAC DIC DRC DBC DTC : Assembly
   deriving Discrete as Assembly-discrete
 
 -- A row: number as the operations have it, mnemonic, the first and the last value of `opened` at which it stands, the formats of its operands.
@@ -39,11 +39,12 @@ assemblyRow GLB = row 1205 "GLB" 1 1 []
 assemblyRow EQU = row 1201 "EQU" 2 2 (EQOP ∷ [])
 assemblyRow DAC = row 1101 "DAC" 3 4 (ADDR ∷ [])
 assemblyRow DIC = row 1102 "DIC" 3 4 (INTEGER ∷ [])
+assemblyRow DRC = row 1103 "DRC" 3 4 (REAL ∷ [])
 assemblyRow DBC = row 1105 "DBC" 3 4 (VAL ∷ [])
 assemblyRow DTC = row 1104 "DTC" 3 4 []
 
 abbrev pub assemblies : List Assembly
-assemblies = SEC ∷ END ∷ TTL ∷ EJC ∷ EXP ∷ INP ∷ INR ∷ GLB ∷ EQU ∷ DAC ∷ DIC ∷ DBC ∷ DTC ∷ []
+assemblies = SEC ∷ END ∷ TTL ∷ EJC ∷ EXP ∷ INP ∷ INR ∷ GLB ∷ EQU ∷ DAC ∷ DIC ∷ DRC ∷ DBC ∷ DTC ∷ []
 
 -- its row in the constant list, of the same form as an operation's: number, letters, operands, and no class
 abbrev pub assemblyCells : Assembly → List ℕ

@@ -40,19 +40,21 @@ pub const ADDR: u8 = 17;
 
 pub const INTEGER: u8 = 18;
 
-pub const OPT_OPV: u8 = 19;
+pub const REAL: u8 = 19;
 
-pub const OPT_VAL: u8 = 20;
+pub const OPT_OPV: u8 = 20;
 
-pub const OPT_INT: u8 = 21;
+pub const OPT_VAL: u8 = 21;
 
-pub const OPT_PLBL: u8 = 22;
+pub const OPT_INT: u8 = 22;
 
-pub const STILL_OPV: u8 = 23;
+pub const OPT_PLBL: u8 = 23;
 
-pub const STILL_OPN: u8 = 24;
+pub const STILL_OPV: u8 = 24;
 
-pub const STILL_OPW: u8 = 25;
+pub const STILL_OPN: u8 = 25;
+
+pub const STILL_OPW: u8 = 26;
 
 // The classes.
 pub const GOES: u8 = class::GOES as u8;

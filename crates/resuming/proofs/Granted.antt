@@ -52,7 +52,7 @@ passed-by t s mem full h = go (tableOk t) (stateOk t (stateOf s mem)) refl refl 
 
 -- the state that is lent is clean: words that are not used are 0, and the flag is 0 or 1
 state-clean : (s : State) (mem : List ℕ) → Clean (stateOf s mem)
-state-clean s mem = record { canonical = own-canonical _ _ _ _ _ _ _ _; flagged = record { bit = bit-le (s .flag) } }
+state-clean s mem = record { canonical = own-canonical _ _ _ _ _ _ _ _ _ _ _; flagged = record { bit = bit-le (s .flag) } }
 
 module _ (t : List ℕ) (s : State) (lent : List ℕ) (y : Passed t s lent) where
   abbrev s₀ : Rules.State

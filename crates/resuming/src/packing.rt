@@ -40,9 +40,9 @@ pub fn unpack_words(s: State) -> [u32; 16]
         0,
         s.ia,
         bit(s.flag),
-        0,
-        0,
-        0,
+        s.ra_low,
+        s.ra_high,
+        s.real_flag,
         0,
         0,
         0,
@@ -84,6 +84,9 @@ pub fn pack(z: &[u32; 16], links: &[u32], p: usize, waiting: bool) -> State
         waiting,
         count,
         links: room,
+        ra_low: z[Machine::RA],
+        ra_high: z[Machine::RA_HIGH],
+        real_flag: z[Machine::REAL_FLAG],
     }
 }
 

@@ -7,10 +7,10 @@ use mathlib.Core.List.{List}
 use mathlib.Core.Logic.{_≢_}
 use lib.ListN.{length}
 use Rattle.base.specs.Lists.{_at_}
-use Rattle.ops.specs.Machine.{FLAG, IA, WA, WB, WC, XL, XR, XS}
+use Rattle.ops.specs.Machine.{FLAG, IA, RA, RAHIGH, RFLAG, WA, WB, WC, XL, XR, XS}
 use Rattle.rules.specs.Table.{constants, freshCount, freshIndex, workings}
 use Rattle.rules.specs.State.{State}
-use Rattle.rules.specs.Start.{Started, begun, ownWords, unbegun}
+use Rattle.rules.specs.Start.{Started, begun, machineWords, unbegun}
 
 -- every element is a word of 32 bits; every element is a byte
 pub record AreWords (ws : List ℕ) : Type 0 where
@@ -26,8 +26,9 @@ pub record Plain (s : State) (build : ℕ) : Type 0 where
   pub own-words : AreWords (s .core .words)
   pub own-layout :
       s .core .words
-      ≡ ownWords (s .core .words at XL) (s .core .words at XR) (s .core .words at XS) (s .core .words at WA) (s .core .words at WB)
-      (s .core .words at WC) (s .core .words at IA) (s .core .words at FLAG)
+      ≡ machineWords (s .core .words at XL) (s .core .words at XR) (s .core .words at XS) (s .core .words at WA) (s .core .words at WB)
+      (s .core .words at WC) (s .core .words at IA) (s .core .words at FLAG) (s .core .words at RA) (s .core .words at RAHIGH)
+      (s .core .words at RFLAG)
   pub flag-bit : s .core .words at FLAG ≤ 1
 
 -- none of the first k fresh words has the index p

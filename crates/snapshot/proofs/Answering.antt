@@ -11,7 +11,7 @@ use Rattle.rules.specs.Number.{badState, badTable, shortRoom}
 use Rattle.rules.specs.Check.{tableOk}
 use Rattle.rules.specs.State.{State, stateOk}
 use Rattle.rules.specs.Table.{freshCount}
-use Rattle.rules.specs.Snapshot.{fileLength, fileOf, filled, unwritten, writeOf}
+use Rattle.rules.specs.Snapshot.{fileLength, newForm, fileOf, filled, unwritten, writeOf}
 use Rattle.rules.proofs.Files.{length-fileOf}
 use Rattle.snapshot.specs.Answers.{Writes}
 use Rattle.snap_core.specs.Buffers.{put}
@@ -36,19 +36,19 @@ module _ (t : List ℕ) (s : State) (build : ℕ) (room : List ℕ) where
 
     module _ (passes : stateOk t s ≡ true) where
       -- 45
-      pub unwritten-room : length room < fileLength (length (s .core .mem)) (length (s .links)) (freshCount t) → Writes t s build room ShortRoom room
+      pub unwritten-room : length room < fileLength newForm (length (s .core .mem)) (length (s .links)) (freshCount t) → Writes t s build room ShortRoom room
       unfolding writeOf
       unwritten-room a =
           let u : writeOf t s build room ≡ unwritten shortRoom = unless-yes _ _ _ ok ∙ unless-yes _ _ _ passes ∙ if-yes _ _ _ (lt-ltb _ _ a) in
           record { answer = sym u; bytes = rw u; size = rw u }
 
       -- the file at the front
-      pub written-file : (n : ℕ) (after : List ℕ) → fileLength (length (s .core .mem)) (length (s .links)) (freshCount t) ≤ length room
-          → n ≡ fileLength (length (s .core .mem)) (length (s .links)) (freshCount t) → after ≡ put room 0 (fileOf t s build)
+      pub written-file : (n : ℕ) (after : List ℕ) → fileLength newForm (length (s .core .mem)) (length (s .links)) (freshCount t) ≤ length room
+          → n ≡ fileLength newForm (length (s .core .mem)) (length (s .links)) (freshCount t) → after ≡ put room 0 (fileOf t s build)
           → Writes t s build room (Filled n) after
       unfolding writeOf
       written-file n after a e h =
-          let whole : after ≡ fileOf t s build ++ drop (fileLength (length (s .core .mem)) (length (s .links)) (freshCount t)) room =
+          let whole : after ≡ fileOf t s build ++ drop (fileLength newForm (length (s .core .mem)) (length (s .links)) (freshCount t)) room =
           h ∙ put-front room (fileOf t s build) ∙ rw length-fileOf in
           let u : writeOf t s build room ≡ filled after =
           unless-yes _ _ _ ok ∙ unless-yes _ _ _ passes ∙ if-no _ _ _ (le-ltb _ _ a) ∙ ap filled (sym whole) in

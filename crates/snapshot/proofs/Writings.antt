@@ -2,7 +2,7 @@
 -- Assumes nothing.
 use Prim.Native.Nat.{ℕ, _+_, _*_, _≤_}
 use mathlib.Core.Path.{_≡_, refl, sym, _∙_}
-use mathlib.Core.List.{List, [], _∷_, _++_}
+use mathlib.Core.List.{List, [], _∷_, _++_, append-assoc}
 use native.Mathlib.Omega.{arith}
 use lib.ListN.{length, take, length-append}
 use lib.Seq.{length-take-le}
@@ -10,12 +10,12 @@ use Rattle.base.specs.Test.{Ok}
 use Rattle.ops.specs.Machine.{maxMemory}
 use Rattle.rules.specs.State.{stateOk}
 use Rattle.rules.specs.Table.{constants, freshCount, workings}
-use Rattle.rules.specs.Snapshot.{bytesFrom, fileOf, fileWords, freshList, hidden, trailer}
+use Rattle.rules.specs.Snapshot.{bytesFrom, fileBy, fileOf, fileWords, freshList, hidden, newForm, realPart, trailer}
 use Rattle.rules.proofs.Bytes.{length-bytesFrom}
 use Rattle.rules.proofs.Files.{StateLimits, length-freshList, linkWords-links, state-limits}
 use Rattle.rules.proofs.Memory.{length-refreshed}
 use Rattle.states.specs.declared.State.{State}
-use Rattle.states.specs.Views.{linksOf, stateOf}
+use Rattle.states.specs.Views.{linksOf, stateOf, wordsOf}
 use Rattle.states.proofs.Front.{links-front, links-length}
 use Rattle.snap_core.specs.Buffers.{put}
 use Rattle.snap_core.proofs.Puts.{put-put}
@@ -48,14 +48,15 @@ put-more l p q xs ys a e f h =
 
 -- memory, links, fresh addresses and trailer are the file
 put-file : (t mem l q ls fs ws : List ℕ) (s : State) (build : ℕ) → ls ≡ linksOf (s .count) (s .links)
-    → fs ≡ freshList t 0 (freshCount t) → ws ≡ trailer t (stateOf s mem) build
+    → fs ≡ freshList t 0 (freshCount t) → ws ≡ realPart newForm (wordsOf s) ++ trailer newForm t (stateOf s mem) build
     → q ≡ put l 0 (bytesFrom (hidden t mem ++ ls ++ fs ++ ws)) → q ≡ put l 0 (fileOf t (stateOf s mem) build)
-unfolding fileOf fileWords
-put-file t mem l q ls fs ws s build a b c h = rw linkWords-links (rw (a, b, c) at h)
+unfolding fileBy fileWords
+put-file t mem l q ls fs ws s build a b c h =
+    rw (linkWords-links, append-assoc (hidden t mem ++ linksOf (s .count) (s .links) ++ freshList t 0 (freshCount t)) (realPart newForm (wordsOf s)) (trailer newForm t (stateOf s mem) build)) (rw (a, b, c) at h)
 
 -- the four parts, each just behind the one before, are the file
 pub write-parts : (t mem room p q u v ls fs ws : List ℕ) (s : State) (build a b c k : ℕ) → Measured t mem s → length (s .links) ≡ 256
-    → k ≡ s .count → ls ≡ take k (s .links) → fs ≡ freshList t 0 (freshCount t) → ws ≡ trailer t (stateOf s mem) build
+    → k ≡ s .count → ls ≡ take k (s .links) → fs ≡ freshList t 0 (freshCount t) → ws ≡ realPart newForm (wordsOf s) ++ trailer newForm t (stateOf s mem) build
     → p ≡ put room 0 (bytesFrom (hidden t mem)) → q ≡ put p a (bytesFrom ls) → u ≡ put q b (bytesFrom fs) → v ≡ put u c (bytesFrom ws)
     → a ≡ 4 * length mem → b ≡ a + 4 * k → c ≡ a + 4 * (k + freshCount t) → v ≡ put room 0 (fileOf t (stateOf s mem) build)
 write-parts t mem room p q u v ls fs ws s build a b c k d full e el ef ew hp hq hu hv na nb nc =

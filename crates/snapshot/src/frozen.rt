@@ -16,6 +16,9 @@ use snap_core::trailer::IA;
 use snap_core::trailer::LINKS;
 use snap_core::trailer::MEMORY;
 use snap_core::trailer::PLACE;
+use snap_core::trailer::RA_HIGH;
+use snap_core::trailer::RA_LOW;
+use snap_core::trailer::REAL_FLAG;
 use snap_core::trailer::WA;
 use snap_core::trailer::WAITING;
 use snap_core::trailer::WB;
@@ -25,6 +28,7 @@ use snap_core::trailer::XR;
 use snap_core::trailer::XS;
 use snap_core::trailer::links_from;
 use snap_core::trailer::memory_from;
+use snap_core::trailer::real_word;
 use snap_core::trailer::trailer_word;
 use state_check::passing::state_ok;
 use states::State;
@@ -60,6 +64,9 @@ pub fn frozen_state(file: &[u8]) -> State
         waiting: trailer_word(file, WAITING) == 1,
         count: trailer_word(file, LINKS),
         links,
+        ra_low: real_word(file, RA_LOW),
+        ra_high: real_word(file, RA_HIGH),
+        real_flag: real_word(file, REAL_FLAG),
     }
 }
 

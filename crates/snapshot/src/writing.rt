@@ -7,7 +7,8 @@ ghost use Rattle.rules.specs.Check.{tableOk};
 ghost use Rattle.rules.specs.Snapshot as Snapshot;
 ghost use Rattle.rules.specs.State.{stateOk};
 ghost use Rattle.rules.specs.Table.{freshCount};
-ghost use Rattle.states.specs.Views.{stateOf};
+ghost use mathlib.Core.List.{_++_};
+ghost use Rattle.states.specs.Views.{stateOf, wordsOf};
 ghost use Rattle.snapshot.specs.Answers.{Writes};
 ghost use Rattle.snap_core.specs.Buffers.{put};
 use loading::WORD;
@@ -15,8 +16,8 @@ use loading::fresh_base;
 use loading::fresh_count;
 use snap_core::copy::write_words;
 use snap_core::fresh::write_memory;
-use snap_core::layout::file_length;
 use snap_core::layout::index;
+use snap_core::layout::written_length;
 use state_check::passing::state_ok;
 use states::State;
 use states::bit;
@@ -29,13 +30,16 @@ pub enum Written {
     ShortRoom,
 }
 
-// The words of the trailer.
-pub fn trailer_words(table: &[u32], memory: &[u32], state: State, build: u32) -> [u32; 16]
+// The words of the trailer, RA and its flag before the build number.
+pub fn trailer_words(table: &[u32], memory: &[u32], state: State, build: u32) -> [u32; 19]
     requires { ⌜ Ok (tableOk (now table)) × Ok (stateOk (now table) (stateOf state (now memory))) ⌝ }
-    ensures { λ r. ⌜ r ≡ Snapshot.trailer (now (table .entry)) (stateOf state (now (memory .entry))) build ⌝ }
+    ensures { λ r. ⌜ r ≡ Snapshot.realPart Snapshot.newForm (wordsOf state) ++ Snapshot.trailer Snapshot.newForm (now (table .entry)) (stateOf state (now (memory .entry))) build ⌝ }
 {
     let m = memory.len() as u32;
     [
+        state.ra_low,
+        state.ra_high,
+        state.real_flag,
         build,
         table[0],
         m,
@@ -51,13 +55,13 @@ pub fn trailer_words(table: &[u32], memory: &[u32], state: State, build: u32) ->
         state.wc,
         state.ia,
         bit(state.flag),
-        file_length(m, state.count, table[3]) as u32,
+        written_length(m, state.count, table[3]) as u32,
     ]
 }
 
 // The file at the front of the room; bytes behind it stay.
 pub fn write_file(file: &mut [u8], table: &[u32], memory: &[u32], state: State, build: u32)
-    requires { ⌜ Ok (tableOk (now table)) × Ok (stateOk (now table) (stateOf state (now memory))) × (Snapshot.fileLength (length (now memory)) (state .count) (freshCount (now table)) ≤ length (now file)) ⌝ }
+    requires { ⌜ Ok (tableOk (now table)) × Ok (stateOk (now table) (stateOf state (now memory))) × (Snapshot.fileLength Snapshot.newForm (length (now memory)) (state .count) (freshCount (now table)) ≤ length (now file)) ⌝ }
     ensures { λ r. ⌜ now (file .exit) ≡ put (now (file .entry)) 0 (Snapshot.fileOf (now (table .entry)) (stateOf state (now (memory .entry))) build) ⌝ }
 {
     write_memory(file, table, memory);
@@ -87,7 +91,7 @@ pub fn write_checked(
     if !state_ok(table, memory.len(), state) {
         return Written::BadState;
     }
-    let len = file_length(memory.len() as u32, state.count, table[3]) as usize;
+    let len = written_length(memory.len() as u32, state.count, table[3]) as usize;
     if file.len() < len {
         return Written::ShortRoom;
     }

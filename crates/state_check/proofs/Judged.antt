@@ -9,6 +9,7 @@ use lib.Dec.{leb}
 use lib.ListN.{getD, length, take}
 use borrow.Author.Tests.{le-leb, lt-leb, not-false, not-true}
 use Rattle.base.specs.Test.{_and_}
+use Rattle.real_rules.specs.Real.{finiteHigh}
 use Rattle.rules.specs.State.{chain, held, memoryFits, stateOk, topLink, waitOk}
 use Rattle.rules.specs.Table.{bodyAt, constants, executable, size, workings}
 use Rattle.states.specs.Views.{linksOf, stateOf}
@@ -21,6 +22,16 @@ neither : (a r : Bool) → a and false and r ≡ false
 unfolding _and_
 neither true r = refl
 neither false r = refl
+
+and-false : (a : Bool) → a and false ≡ false
+unfolding _and_
+and-false true = refl
+and-false false = refl
+
+and-true : (a : Bool) → a and true ≡ a
+unfolding _and_
+and-true true = refl
+and-true false = refl
 
 -- memory's length
 module _ (t : List ℕ) (len : ℕ) where
@@ -43,6 +54,10 @@ module _ (t mem : List ℕ) (s : State) (len k p : ℕ) (m : length mem ≡ len)
   unfolding stateOk _and_
   judged-unfit a is h = rw (m, ← is, not-true a h) refl
 
+  pub judged-unreal : (r : Bool) → r ≡ (finiteHigh (s .«ra_high») and leb (s .«real_flag») 1) → not r ≡ true → false ≡ stateOk t (stateOf s mem)
+  unfolding stateOk
+  judged-unreal r is h = rw (← is, not-true r h) (sym (simp and-false))
+
   pub judged-many : length (s .links) ≡ 256 → 256 < k → false ≡ stateOk t (stateOf s mem)
   unfolding stateOk
   judged-many full h =
@@ -50,13 +65,14 @@ module _ (t mem : List ℕ) (s : State) (len k p : ℕ) (m : length mem ≡ len)
       rw (links-length (s .count) (s .links) full) (lt-leb (s .count) 256 (omega arith)) in
       rw z (sym (neither _ _))
 
-  module _ (full : length (s .links) ≡ 256) (a : Bool) (is : a ≡ memoryFits t len) (h : not a ≡ false) (g : k ≤ 256) where
-    -- what is left where memory fits and the links are not too many
+  module _ (full : length (s .links) ≡ 256) (a : Bool) (is : a ≡ memoryFits t len) (h : not a ≡ false) (g : k ≤ 256)
+      (r : Bool) (is-r : r ≡ (finiteHigh (s .«ra_high») and leb (s .«real_flag») 1)) (h-r : not r ≡ false) where
+    -- what is left where RA is finite, memory fits and the links are not too many
     judged-rest : stateOk t (stateOf s mem) ≡ chain t 0 (take k (s .links)) and placedOk t p (take k (s .links)) (s .waiting)
     unfolding stateOk placedOk _and_
     judged-rest =
         rw
-        (m, ← is, not-false a h, ← e, ← f, links-length k (s .links) full, le-leb k 256 g, links-front k (s .links) g)
+        (← is-r, not-false r h-r, and-true, m, ← is, not-false a h, ← e, ← f, links-length k (s .links) full, le-leb k 256 g, links-front k (s .links) g)
         refl
 
     module _ (c : Bool) (is-c : c ≡ chain t 0 (take k (s .links))) where

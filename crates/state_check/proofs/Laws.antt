@@ -12,6 +12,7 @@ use Rattle.base.specs.Test.{Ok, _and_, if}
 use Rattle.base.proofs.Bool.{and-3, and-l, and-r, failed, ok-eq, ok-lt, passed, test-true}
 use Rattle.ops.specs.Class.{Class, JSR, executes, is}
 use Rattle.ops.proofs.Classes.{is-eq}
+use Rattle.real_rules.proofs.Held.{RealOk}
 use Rattle.rules.specs.Check.{layoutOk, tableOk}
 use Rattle.rules.specs.State.{chain, held, isExternal, opened, stateOk, topLink, waitOk}
 use Rattle.rules.specs.Table.{Callee, bodyAt, callee, calls, classAt, declared, executable, exitCount, external, externals, field, namesExternal, namesProcedure, procedure, size, tableLength, unnamed, value}
@@ -19,7 +20,7 @@ use Rattle.rules.proofs.Exits.{reaches-executable}
 use Rattle.rules.proofs.Facts.{in-table, rule-when}
 use Rattle.rules.proofs.Steps.{Parts, parts, whole}
 use Rattle.state_check.specs.Checked.{Checked, Waiting}
-use Rattle.states.specs.Views.{linksOf, stateOf}
+use Rattle.states.specs.Views.{linksOf, stateOf, wordsOf}
 use Rattle.states.specs.declared.State.{State}
 use Rattle.state_check.proofs.Called.{calls-inside}
 use Rattle.state_check.proofs.Chained.{top-link}
@@ -44,8 +45,8 @@ module _ (t mem : List ℕ) (s : State) (full : length (s .links) ≡ 256) where
         fits = x .fits;
       }
 
-  pub of-checked : Checked t (s .pc) (s .count) (s .links) (s .waiting) (length mem) → Ok (stateOk t (stateOf s mem))
-  of-checked x =
+  pub of-checked : Checked t (s .pc) (s .count) (s .links) (s .waiting) (length mem) → RealOk (wordsOf s) → Ok (stateOk t (stateOf s mem))
+  of-checked x real =
       let e : linksOf (s .count) (s .links) ≡ take (s .count) (s .links) = links-front (s .count) (s .links) (x .few) in
       whole t (stateOf s mem)
       (record {
@@ -56,6 +57,7 @@ module _ (t mem : List ℕ) (s : State) (full : length (s .links) ≡ 256) where
         covered = rw e (x .covered);
         waits = x .waits;
       })
+      real
 
 -- each link is a JSR to a procedure
 link-calls : (t : List ℕ) (b : ℕ) (ls : List ℕ) (i : ℕ) → Ok (chain t b ls) → i < length ls → 0 < calls t (getD ls i 0)

@@ -40,6 +40,9 @@ at p w k i j =
       waiting = w;
       count = k;
       links = i ∷ j ∷ replicate 254 0;
+      «ra_low» = 0;
+      «ra_high» = 0;
+      «real_flag» = 0;
     }
 
 abbrev judged : State → List ℕ → Bool

@@ -28,6 +28,7 @@ use bodies::entry::SIZE;
 use bodies::entry::WORKINGS;
 use bodies::entry::index;
 use ops::constants::Machine;
+use reals::reals_ok;
 use states::State;
 
 // Memory of len words fits the table.
@@ -97,6 +98,9 @@ pub fn state_ok_with(t: &[u32], body: &[u32], len: usize, s: State) -> bool
     let k = index(s.count);
     let p = index(s.pc);
     let links = s.links;
+    if !reals_ok(s.ra_high, s.real_flag) {
+        return false;
+    }
     if !memory_fits(t, len) {
         return false;
     }

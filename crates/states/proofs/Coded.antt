@@ -10,11 +10,11 @@ use lib.Seq.{take-append-seam}
 use Rattle.base.specs.Test.{Ok}
 use Rattle.base.specs.Lists.{_at_}
 use Rattle.base.proofs.Bool.{and-l, and-r, ok-le}
-use Rattle.ops.specs.Machine.{XL, XR, XS, WA, WB, WC, IA, FLAG}
+use Rattle.ops.specs.Machine.{XL, XR, XS, WA, WB, WC, IA, FLAG, RA, RAHIGH, RFLAG}
 use Rattle.rules.specs.Check.{tableOk}
 use Rattle.rules.specs.Control.{stateAt}
 use Rattle.rules.specs.Snapshot.{bit}
-use Rattle.rules.specs.Start.{ownWords, started}
+use Rattle.rules.specs.Start.{machineWords, started}
 use Rattle.rules.specs.State as Rules
 use Rattle.rules.specs.State.{memoryFits}
 use Rattle.rules.specs.Table.{constants, workings}
@@ -69,8 +69,9 @@ bit-test (suc (suc n)) h = absurd (omega arith)
 -- the code's state of a machine is seen as that machine, whatever memory stands beside it
 pub code-view : (s : Rules.State) (mem : List ℕ)
     → s .core .words
-    ≡ ownWords (s .core .words at XL) (s .core .words at XR) (s .core .words at XS) (s .core .words at WA) (s .core .words at WB)
-    (s .core .words at WC) (s .core .words at IA) (s .core .words at FLAG) → s .core .words at FLAG ≤ 1 → length (s .links) ≤ 256
+    ≡ machineWords (s .core .words at XL) (s .core .words at XR) (s .core .words at XS) (s .core .words at WA) (s .core .words at WB)
+    (s .core .words at WC) (s .core .words at IA) (s .core .words at FLAG) (s .core .words at RA) (s .core .words at RAHIGH)
+    (s .core .words at RFLAG) → s .core .words at FLAG ≤ 1 → length (s .links) ≤ 256
     → stateOf (codeOf s) mem ≡ stateAt (record { words = s .core .words; mem = mem }) (s .pc) (s .waiting) (s .links)
 code-view s mem layout flag few =
     let l : linksOf (length (s .links)) (s .links ++ replicate (256 - length (s .links)) 0) ≡ s .links =

@@ -11,7 +11,8 @@ use bodies::entry::WORKINGS;
 use ops::constants::Machine;
 
 // The state beside its memory: the registers, IA's 32 bits, the overflow flag, the place, whether it waits at the JSR of an EXP,
-// how many links are open, and the links' places, oldest first. Links from count on are not looked at.
+// how many links are open, the links' places, oldest first, RA's two words and its flag. Links from count on are not looked at. RA is words and no
+// float, which could be a NaN; a state that passes its check has a finite RA and a real flag of 0 or 1 [02 Wish 5].
 pub struct State {
     pub xl: u32,
     pub xr: u32,
@@ -25,6 +26,9 @@ pub struct State {
     pub waiting: bool,
     pub count: u32,
     pub links: [u32; Machine::MAX_LINKS],
+    pub ra_low: u32,
+    pub ra_high: u32,
+    pub real_flag: u32,
 }
 
 // The word of a table's header with the start of section 4.
@@ -63,6 +67,9 @@ impl State {
             waiting: false,
             count: 0,
             links,
+            ra_low: 0,
+            ra_high: 0,
+            real_flag: 0,
         }
     }
 
@@ -85,6 +92,9 @@ impl State {
             waiting: false,
             count: 0,
             links,
+            ra_low: 0,
+            ra_high: 0,
+            real_flag: 0,
         }
     }
 }

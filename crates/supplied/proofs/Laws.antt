@@ -17,7 +17,7 @@ use Rattle.supplied.specs.declared.Supplied.the-variants.{Value, Absent}
 use Rattle.ops.proofs.First.{cells-first}
 use Rattle.ops.proofs.Every.{every, every-at}
 
-pub supplies-count : length supplies ≡ 44
+pub supplies-count : length supplies ≡ 45
 unfolding supplies
 supplies-count = refl
 
@@ -50,7 +50,7 @@ named s = valueAt (firstWith byName (nameOf s) 0 supplies)
 
 -- CH$LZ is supplied; CH$L$ and the other CFP$ names of the description are not [S The house machine]
 pub some-names :
-    map named ("CH$LZ" ∷ "CFP$M" ∷ "CH$L$" ∷ "CFP$R" ∷ "CFP$S" ∷ "CFP$U" ∷ "CFP$X" ∷ [])
-    ≡ Value 90 ∷ Value 2147483647 ∷ Absent ∷ Absent ∷ Absent ∷ Absent ∷ Absent ∷ []
+    map named ("CH$LZ" ∷ "CFP$M" ∷ "CFP$R" ∷ "CH$L$" ∷ "CFP$S" ∷ "CFP$U" ∷ "CFP$X" ∷ [])
+    ≡ Value 90 ∷ Value 2147483647 ∷ Value 2 ∷ Absent ∷ Absent ∷ Absent ∷ Absent ∷ []
 unfolding supplies if
 some-names = refl

@@ -5,7 +5,7 @@ use Prim.Native.Char.{code}
 use Prim.Native.String.{String, charAt}
 use mathlib.Core.List.{List, [], _∷_}
 use lib.ListN.{getD}
-use Rattle.ops.specs.Machine.{cfpA, cfpB, cfpC, cfpF, cfpI, cfpM, cfpN, chBL, chD0, chD9, chLA}
+use Rattle.ops.specs.Machine.{cfpA, cfpB, cfpC, cfpF, cfpI, cfpM, cfpN, cfpR, chBL, chD0, chD9, chLA}
 use Rattle.ops.specs.Lookup.{firstWith}
 use Rattle.ops.specs.declared.lookup.Lookup.{Lookup}
 use Rattle.ops.specs.declared.lookup.Lookup.the-variants as found
@@ -28,6 +28,7 @@ supplies =
     ∷ supply "CFP$I" cfpI
     ∷ supply "CFP$M" cfpM
     ∷ supply "CFP$N" cfpN
+    ∷ supply "CFP$R" cfpR
     ∷ supply "CH$BL" chBL
     ∷ supply "CH$D0" chD0
     ∷ supply "CH$D1" (chD0 + 1)

@@ -11,7 +11,7 @@ pub enum Supplied {
 }
 
 // How many names.
-const COUNT: usize = 44;
+const COUNT: usize = 45;
 
 // Name, its first character in the highest byte, and value.
 const NAMES: [[u64; 2]; COUNT] = [
@@ -22,6 +22,7 @@ const NAMES: [[u64; 2]; COUNT] = [
     [0x4346502449, Machine::CFP_I as u64], // CFP$I
     [0x434650244d, Machine::CFP_M as u64], // CFP$M
     [0x434650244e, Machine::CFP_N as u64], // CFP$N
+    [0x4346502452, Machine::CFP_R as u64], // CFP$R
     [0x434824424c, Machine::CH_BL as u64], // CH$BL
     [0x4348244430, Machine::CH_D0 as u64], // CH$D0
     [0x4348244431, Machine::CH_D1 as u64], // CH$D1

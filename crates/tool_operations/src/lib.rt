@@ -18,7 +18,7 @@ use ops::table::THREE;
 use ops::table::TWO;
 
 // What stands for the text of ERR and ERB, past the codes of the formats.
-const TEXT: u8 = 26;
+const TEXT: u8 = 27;
 
 // How many operands a card may write: those of its entry, one before them, and a text.
 const OPERANDS: usize = 5;
@@ -57,6 +57,7 @@ fn put_operand(page: &mut [u8], at: usize, first: bool, code: u8) -> usize {
 ,EQOP
 ,ADDR
 ,INTEGER
+,REAL
 ,OPV
 ,VAL
 ,INT
@@ -212,7 +213,7 @@ fn show_unknown() {
 
 // Row i.
 fn show_at(i: usize)
-    requires { ⌜ i < 89 ⌝ }
+    requires { ⌜ i < 106 ⌝ }
 {
     let table = rows();
     let mut page = io::buffer();

@@ -1,4 +1,4 @@
-// What a run left, as lines, over plain words: the table's, memory's and the 267 of a state. A run's answer has a number in its upper half and the steps in its
+// What a run left, as lines, over plain words: the table's, memory's and the 270 of a state. A run's answer has a number in its upper half and the steps in its
 // lower; endings are told with what they left.
 use console::lines::line_of;
 use console::page::show;
@@ -8,6 +8,7 @@ use tool_arguments::refuse;
 use tool_arguments::tell_stop;
 use tool_forms::put_form;
 use tool_fresh::Supply;
+use tool_reals::put_ra;
 use tool_shown::put_text;
 
 // A number of 1 in the upper half of an answer.
@@ -42,6 +43,12 @@ const PLACE: usize = 8;
 const WAITING: usize = 9;
 
 const COUNT: usize = 10;
+
+const RA: usize = 267;
+
+const RA_HIGH: usize = 268;
+
+const REAL_FLAG: usize = 269;
 
 // Words of a table's header and of an entry; the words of the header with the counts of entries and of fresh words; operand one's value in an entry.
 const HEADER: usize = 8;
@@ -150,6 +157,17 @@ XL #, XR #, XS #, WA #, WB #, WC #, IA %#, overflow #
     )
 }
 
+// RA and its flag.
+fn put_real_part(page: &mut [u8], at: usize, state: &[u32]) -> usize {
+    put_ra(
+        page,
+        at,
+        word_at(state, RA),
+        word_at(state, RA_HIGH),
+        word_at(state, REAL_FLAG),
+    )
+}
+
 // The EXP that the JSR at place pc calls.
 fn external(table: &[u32], pc: u32) -> u32 {
     word_at(table, HEADER + ENTRY * pc as usize + VALUE)
@@ -197,6 +215,7 @@ fn put_run(
 ) -> usize {
     let mut at = put_supply(page, supply, fresh);
     at = put_ended(page, at, (r / UPPER) as u32, r % UPPER, state);
+    at = put_real_part(page, at, state);
     put_waiting(page, at, table, memory, state)
 }
 

@@ -18,7 +18,7 @@ use Rattle.rules.specs.Operand.{spotOf, movedOf, wordAt, charAt, given, fetchOf
 use Rattle.rules.specs.Exec.{changes, copies, combines, tells, compares, loads, accumulated, divided, leiOf, mfiOf, cvmBy, cvmOf, cvdOf, charsFit, ranged, copiedChars, copiedWords, translated, compared, cmcOf, trcOf, mvcOf, mvwOf, lchOf, schOf, act}
 use Rattle.rules.specs.Control.{stateAt, exitOf, choose, effectOf, step}
 use Rattle.rules.specs.Run.{Answer, refused, ended, nowhere, Call, runs, resumes, left, steps, ran, verdict, perform, answer}
-use Rattle.rules.specs.Start.{ownWords, Started, begun, unbegun, filled, supplied, refreshed, loaded, started, startOn}
+use Rattle.rules.specs.Start.{machineWords, Started, begun, unbegun, filled, supplied, refreshed, loaded, started, startOn}
 use Rattle.rules.specs.Reference.{reference, begins}
 use Rattle.rules.proofs.Samples.{sampleMachine}
 use Rattle.states.specs.Views.{linksOf}
@@ -30,6 +30,9 @@ pub waiting-is-left : stateFrom waitingWords (replicate 256 0) ≡ left (begins 
 unfolding _and_ _or_ if member same rows signed fits positive textWords shiftRight shiftLeft size constants workings freshCount externals section4 section5 section6 freshAt exitCount startWord tableLength field classAt opAt value target1 target2 target3 slot executable bodyAt namesProcedure namesExternal callee declared calls entryPlace isEntry entryOf smaller among registerOk valueOk operandOk thirdOk fieldsOk apart outside reaches isOutside startsSection allExits exitList iffs valueKnown unlike distinctIffs switchList exitNumberOk faultAt rulesHold sectionsOk freshOk countsOk limitsOk layoutOk tableOk memoryFits stateOk spotOf movedOf wordAt charAt given fetchOf storeOf charIn withChar fetchCharOf storeCharOf changes copies combines tells compares loads accumulated divided leiOf mfiOf cvmBy cvmOf cvdOf charsFit ranged copiedChars copiedWords translated compared cmcOf trcOf mvcOf mvwOf lchOf schOf act exitOf choose effectOf step steps ran verdict perform answer filled supplied refreshed loaded started startOn linksOf waitingWords
 waiting-is-left = refl
 
-pub called-is-sample : stateFrom calledWords (replicate 256 11) ≡ sampleMachine 11 11
+-- in the second call of the sample's procedure, RA 1.5 and a little more, its flag on
+pub called-is-sample :
+    stateFrom calledWords (replicate 256 11)
+    ≡ stateAt (record { words = machineWords 1 2 3 4 5 6 7 1 8 1073217536 1; mem = sampleMachine 11 11 .core .mem }) 3 false (0 ∷ 3 ∷ [])
 unfolding linksOf calledWords
 called-is-sample = refl

@@ -18,7 +18,7 @@ pub const MEMORY: usize = 256;
 
 const MOST: usize = Machine::MAX_MEMORY;
 
-const TRAILER: usize = 64;
+const TRAILER: usize = 76;
 
 // The most fresh words that are supplied.
 const SUPPLY: usize = 255;
@@ -26,20 +26,20 @@ const SUPPLY: usize = 255;
 // How many other bytes stand before the file and behind it, and the most bytes that the file has.
 pub const FRONT: usize = 500;
 
-pub const LONGEST: usize = 1100;
+pub const LONGEST: usize = 1112;
 
 pub const ROOM: usize = FRONT + LONGEST + FRONT;
 
 // How many damages there are of each sort: cuts, more bytes, other arguments, bytes of the trailer, and odd words at places of the file.
-const CUTS: usize = 2 * 14;
+const CUTS: usize = 2 * 17;
 
 const EXTRAS: usize = 2 * 5;
 
 const OTHERS: usize = 3 * ODD_WORDS;
 
-const ODD_WORDS: usize = 13;
+const ODD_WORDS: usize = 15;
 
-const PLACES: usize = 21;
+const PLACES: usize = 24;
 
 // Where the damages of each sort end, one sort after the other.
 const CUT: usize = CUTS;
@@ -100,7 +100,7 @@ pub fn less(n: usize, k: usize) -> usize
     if n < k { 0 } else { n - k }
 }
 
-// Distances from the borders of a file: seven from its first byte, then seven from its end.
+// Distances from the borders of a file: seven from its first byte, then ten from its end.
 fn distance(i: usize) -> usize {
     match i {
         0 => 0,
@@ -111,11 +111,14 @@ fn distance(i: usize) -> usize {
         5 => 65,
         6 => 68,
         7 => 1024,
-        8 => 65,
-        9 => 64,
-        10 => 63,
-        11 => 4,
-        12 => 1,
+        8 => 77,
+        9 => 76,
+        10 => 75,
+        11 => 65,
+        12 => 64,
+        13 => 63,
+        14 => 4,
+        15 => 1,
         _ => 0,
     }
 }
@@ -176,7 +179,7 @@ fn extra(table: &[u32], room: &[u8; ROOM], n: usize, k: usize, j: usize) -> u32 
     told(b"", w, part(table, room, from, n + size, k))
 }
 
-// Words that a file may hold in place of one of its own: counts at their limits and near 2^32.
+// Words that a file may hold in place of one of its own: counts at their limits and near 2^32, high words of the largest real and of an infinity.
 fn odd_word(i: usize) -> u32 {
     match i {
         0 => 0,
@@ -189,8 +192,10 @@ fn odd_word(i: usize) -> u32 {
         7 => 8193,
         8 => 1073741824,
         9 => 1073742080,
-        10 => 2147483648,
-        11 => 4294967294,
+        10 => 2146435071,
+        11 => 2146435072,
+        12 => 2147483648,
+        13 => 4294967294,
         _ => 4294967295,
     }
 }
@@ -251,10 +256,10 @@ fn trailer_byte(table: &[u32], room: &[u8; ROOM], n: usize, k: usize, j: usize) 
 // Where a word is changed, counted back from the end: the words of the trailer and the three before it, of the sample its links and its fresh address;
 // then the first two words of memory, of which the second is the sample's fresh word.
 fn word_place(n: usize, i: usize) -> usize {
-    if i < 19 {
+    if i < 22 {
         return 4 * i + 4;
     }
-    if i == 19 { n } else { less(n, 4) }
+    if i == 22 { n } else { less(n, 4) }
 }
 
 // The room with a word at byte at.

@@ -209,10 +209,10 @@ pub fn sample_table() -> [u32; 75]
 }
 
 // The words of the state that the reference program's run leaves.
-pub fn waiting_words() -> [u32; 267]
+pub fn waiting_words() -> [u32; 270]
     ensures { λ r. ⌜ r ≡ waitingWords ⌝ }
 {
-    let mut w = [0u32; 267];
+    let mut w = [0u32; 270];
     w[0] = 764;
     w[2] = 1024;
     w[4] = 3;
@@ -222,10 +222,10 @@ pub fn waiting_words() -> [u32; 267]
 }
 
 // The words of the state in the second call of the procedure.
-pub fn called_words() -> [u32; 267]
+pub fn called_words() -> [u32; 270]
     ensures { λ r. ⌜ r ≡ calledWords ⌝ }
 {
-    let mut w = [0u32; 267];
+    let mut w = [0u32; 270];
     w[0] = 1;
     w[1] = 2;
     w[2] = 3;
@@ -237,5 +237,8 @@ pub fn called_words() -> [u32; 267]
     w[8] = 3;
     w[10] = 2;
     w[12] = 3;
+    w[267] = 8;
+    w[268] = 1073217536;
+    w[269] = 1;
     w
 }

@@ -21,6 +21,9 @@ use super::telling::told;
 use host::torzimlak_restore;
 use host::torzimlak_write;
 use host_numbers::UPPER;
+use lent::RA_HIGH;
+use lent::RA_LOW;
+use lent::REAL_FLAG;
 use lent::WORDS;
 
 // How many writes are spoilt, and how many answers there are about a machine.
@@ -106,6 +109,12 @@ fn spoilt(table: &[u32], memory: &[u32], state: &[u32], len: usize, j: usize) ->
     )
 }
 
+// RA's two words and its flag.
+fn tell_reals(state: &[u32; WORDS]) {
+    let reals = [state[RA_LOW], state[RA_HIGH], state[REAL_FLAG]];
+    tell_words(b"RA", &reals, 3);
+}
+
 // The file of n bytes in its room, woken as it is with k fresh words: the first words of the state and of memory, and the answer.
 fn wake(table: &[u32], room: &[u8], n: usize, k: usize) -> u32 {
     if LONGEST < n {
@@ -130,6 +139,7 @@ fn wake(table: &[u32], room: &[u8], n: usize, k: usize) -> u32 {
         &mut state,
     );
     tell_words(b"state", &state, 16);
+    tell_reals(&state);
     tell_words(b"memory", &memory, 4);
     told(b"woken", 0, number)
 }

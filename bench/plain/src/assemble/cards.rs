@@ -1,6 +1,6 @@
 //! Lines to cards: label, operation, the rest of the line, and where a card stands.
 
-use super::forms::{form, name, Form, Name};
+use super::forms::{decimal, form, name, Form, Name};
 use super::symbols::Sort;
 use crate::ops::{by_letters, Beside, Class, Format, Row, Slot};
 
@@ -18,6 +18,7 @@ pub enum Order {
     Dac,
     Dic,
     Dbc,
+    Drc,
     Dtc,
 }
 
@@ -67,6 +68,7 @@ fn order(s: &[u8]) -> Option<Order> {
         b"DAC" => Order::Dac,
         b"DIC" => Order::Dic,
         b"DBC" => Order::Dbc,
+        b"DRC" => Order::Drc,
         b"DTC" => Order::Dtc,
         _ => return None,
     })
@@ -112,6 +114,8 @@ impl Card<'_> {
             0
         } else if self.one_word() {
             1
+        } else if self.is(Order::Drc) {
+            2
         } else if self.is(Order::Dtc) {
             quoted(self.tail).len().div_ceil(4)
         } else {
@@ -165,6 +169,7 @@ impl Card<'_> {
             Operation::Order(Order::Dac) => vec![of(Format::Addr)],
             Operation::Order(Order::Dic) => vec![of(Format::Integer)],
             Operation::Order(Order::Dbc) => vec![of(Format::Val)],
+            Operation::Order(Order::Drc) => vec![of(Format::Real)],
             Operation::Row(r) => {
                 let mut all = if r.beside == Beside::Type { vec![of(Format::Ptyp)] } else { vec![] };
                 all.extend(r.slots.iter().take_while(|s| s.format != Format::None));
@@ -187,7 +192,7 @@ impl Card<'_> {
         if self.slots().is_empty() || field.is_empty() {
             return vec![];
         }
-        let parts = field.split(|b| *b == b',').map(form);
+        let parts = field.split(|b| *b == b',').map(if self.is(Order::Drc) { decimal } else { form });
         if self.has_text() {
             parts.take(1).collect()
         } else {

@@ -19,7 +19,7 @@ fn of_section(c: &Card) -> bool {
             Order::End | Order::Skipped => true,
             Order::Exp | Order::Inp | Order::Inr | Order::Glb => c.opened == 1,
             Order::Equ => c.opened == 2,
-            Order::Dac | Order::Dic | Order::Dbc | Order::Dtc => c.opened == 3 || c.opened == 4,
+            Order::Dac | Order::Dic | Order::Dbc | Order::Drc | Order::Dtc => c.opened == 3 || c.opened == 4,
         },
     }
 }

@@ -24,6 +24,8 @@ pub enum Form {
     Indexed(Term, u32),
     Combined(Term, bool, Term),
     Signed(bool, u64),
+    /// Whether it has a minus, the number of all its digits, and how many stand behind the point.
+    Decimal(bool, u64, u32),
 }
 
 pub fn name(s: &[u8]) -> Option<Name> {
@@ -63,6 +65,29 @@ fn bracket(s: &[u8]) -> Option<u32> {
     }
 }
 
+/// The form of a DRC's operand: an optional sign, one to nine digits, a point, and up to six digits.
+pub fn decimal(s: &[u8]) -> Form {
+    let (minus, rest) = match s {
+        [b'-', rest @ ..] => (true, rest),
+        [b'+', rest @ ..] => (false, rest),
+        _ => (false, s),
+    };
+    let Some(point) = rest.iter().position(|b| *b == b'.') else {
+        return Form::None;
+    };
+    let (before, behind) = (&rest[..point], &rest[point + 1..]);
+    if before.is_empty() || before.len() > 9 || behind.len() > 6 {
+        return Form::None;
+    }
+    let digits = [before, behind].concat();
+    if !digits.iter().all(u8::is_ascii_digit) {
+        return Form::None;
+    }
+    let number = digits.iter().fold(0, |n, b| 10 * n + (b - b'0') as u64);
+    Form::Decimal(minus, number, behind.len() as u32)
+}
+
+/// The form of any other card's operand.
 pub fn form(s: &[u8]) -> Form {
     if let Some(t) = term(s) {
         return Form::Plain(t);

@@ -11,7 +11,7 @@ use crate::{MAX_FRESH, MAX_OPERATIONS, MAX_WORDS};
 use cards::{cards, quoted, Card, Order};
 use draft::draft;
 use faults::fault;
-use operands::{outcomes, value};
+use operands::{outcomes, pair, value};
 use symbols::{collect, meaning, Meaning, Symbols};
 
 pub const MAX_BYTES: usize = 32_768;
@@ -21,6 +21,7 @@ fn starts(symbols: &Symbols, c: &Card) -> Vec<u32> {
     let mut words = match c.word_count() {
         0 => vec![],
         _ if c.one_word() => vec![value(outcomes(symbols, c).first())],
+        _ if c.is(Order::Drc) => pair(outcomes(symbols, c).first()),
         _ => quoted(c.tail).chunks(4).map(|b| b.iter().rev().fold(0, |w, x| w << 8 | *x as u32)).collect(),
     };
     if c.is_fresh() {

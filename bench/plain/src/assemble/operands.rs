@@ -10,6 +10,8 @@ use crate::{kind, CFP_M, ENTRY_BASE};
 #[derive(Clone, Copy, PartialEq, Eq, Debug)]
 pub enum Outcome {
     Gives(u32, u32, u32),
+    /// The 64 bits of a real.
+    Real(u64),
     Awaits,
     Misfits,
     Unnamed,
@@ -41,6 +43,7 @@ fn supplied(s: &[u8]) -> Option<u32> {
         b"CFP$I" => 1,
         b"CFP$M" => CFP_M,
         b"CFP$N" => 32,
+        b"CFP$R" => 2,
         b"CH$BL" => 32,
         [b'C', b'H', b'$', b'D', d @ b'0'..=b'9'] => *d as u32,
         [b'C', b'H', b'$', b'L', l @ b'A'..=b'Z'] => *l as u32,
@@ -107,7 +110,7 @@ fn takes(slot: Slot, f: Form) -> bool {
         Form::Star | Form::Combined(..) => slot.format == F::Eqop,
         Form::Plain(Term::Number(_)) => matches!(slot.format, F::Val | F::Int | F::Shift | F::Addr | F::Eqop),
         Form::Plain(Term::Name(_)) => {
-            !matches!(slot.format, F::None | F::Opc | F::Reg | F::X | F::W | F::Int | F::Ptyp | F::Integer)
+            !matches!(slot.format, F::None | F::Opc | F::Reg | F::X | F::W | F::Int | F::Ptyp | F::Integer | F::Real)
         }
         Form::Register(r) => slot.takes_kind(if r <= 3 { kind::X } else { kind::W }),
         Form::Literal(_) | Form::Multiple(_) => slot.format == F::Opv,
@@ -117,6 +120,7 @@ fn takes(slot: Slot, f: Form) -> bool {
         Form::Type(_) => slot.format == F::Ptyp,
         Form::Indexed(..) => slot.takes_kind(kind::INDEXED),
         Form::Signed(..) => slot.format == F::Integer,
+        Form::Decimal(..) => slot.format == F::Real,
     }
 }
 
@@ -157,6 +161,17 @@ fn outcome(symbols: &Symbols, c: &Card, slot: Slot, f: Form) -> Outcome {
         Form::Signed(true, n) if n <= 1 << 31 => Gives(kind::VALUE, 0, (n as u32).wrapping_neg()),
         Form::Signed(true, _) => Misfits,
         Form::Signed(false, n) => within(CFP_M, n),
+        Form::Decimal(minus, n, k) => Outcome::Real(real(minus, n, k).to_bits()),
+    }
+}
+
+/// A decimal as a double: the number of all its digits, divided once by a power of ten; zero has no sign.
+fn real(minus: bool, digits: u64, behind: u32) -> f64 {
+    let x = digits as f64 / 10u64.pow(behind) as f64;
+    if minus && digits != 0 {
+        -x
+    } else {
+        x
     }
 }
 
@@ -168,6 +183,14 @@ pub fn outcomes(symbols: &Symbols, c: &Card) -> Vec<Outcome> {
         None => Misfits,
     };
     c.slots().iter().enumerate().map(given).collect()
+}
+
+/// The two words of a real, low word first.
+pub fn pair(o: Option<&Outcome>) -> Vec<u32> {
+    match o {
+        Some(Outcome::Real(bits)) => vec![*bits as u32, (bits >> 32) as u32],
+        _ => vec![0, 0],
+    }
 }
 
 pub fn value(o: Option<&Outcome>) -> u32 {

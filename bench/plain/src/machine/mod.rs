@@ -4,6 +4,7 @@ mod blocks;
 mod control;
 mod obey;
 mod operands;
+mod reals;
 mod values;
 
 use crate::check::{body_of_links_ok, check_table};
@@ -17,15 +18,24 @@ pub const XS: usize = 3;
 pub const WA: usize = 4;
 pub const WB: usize = 5;
 
-/// Registers 1 to 6 (0 is not used), IA, flag, place, waiting, links oldest first.
+/// Registers 1 to 6 (0 is not used), IA, flag, the 64 bits of RA, its flag, place, waiting, links oldest first.
 #[derive(Clone, PartialEq, Eq, Debug, Default)]
 pub struct State {
     pub regs: [u32; 7],
     pub ia: u32,
     pub flag: bool,
+    pub ra: u64,
+    pub real_flag: bool,
     pub pc: u32,
     pub waiting: bool,
     pub links: Vec<u32>,
+}
+
+impl State {
+    /// RA as a number.
+    pub fn real(&self) -> f64 {
+        f64::from_bits(self.ra)
+    }
 }
 
 /// How a run ended, and its steps.
@@ -56,7 +66,7 @@ pub fn memory_fits(t: &[u32], m: usize) -> bool {
 
 /// The state check.
 pub fn check_state(t: &[u32], m: usize, s: &State) -> bool {
-    memory_fits(t, m) && s.links.len() <= MAX_LINKS && body_of_links_ok(Table(t), s)
+    memory_fits(t, m) && s.links.len() <= MAX_LINKS && s.real().is_finite() && body_of_links_ok(Table(t), s)
 }
 
 /// A run: the number of its ending or refusal, and its steps.

@@ -48,6 +48,10 @@ impl Machine<'_> {
             407 => self.store(&a, self.s.ia)?,                       // STI
             408 => self.accumulate(-self.signed()),                  // NGI
             409..=416 => next = branch(self.integer_is(e[0]), a.val), // INO IOV IEQ IGE IGT ILE ILT INE
+            501 | 503..=506 => self.calculate(e[0], &a)?,            // LDR ADR SBR MLR DVR
+            502 => self.store_real(&a)?,                             // STR
+            507..=508 | 510..=515 => next = branch(self.real_is(e[0]), a.val), // ROV RNO REQ RGE RGT RLE RLT RNE
+            509 => self.settle(-self.real()),                        // NGR
             601 | 602 => self.past_header(a.reg, &b)?,               // PLC PSC
             603 => self.load_character(a.reg, &b)?,                  // LCH
             604 => self.store_character(a.reg, &b)?,                 // SCH
@@ -59,6 +63,8 @@ impl Machine<'_> {
             801 | 810 => self.s.regs[a.reg] = self.s.regs[a.reg].wrapping_mul(CFP_B), // WTB WTC
             802 => self.s.regs[a.reg] /= CFP_B,                      // BTW
             804 => next = branch(self.integer_out(&a)? && b.kind == kind::PLACE, b.val), // MFI
+            805 => self.settle(self.signed() as f64),                // ITR
+            806 => next = branch(self.whole_out() && a.kind == kind::PLACE, a.val), // RTI
             807 => self.words_for(a.reg, b.val, 1),                  // CTW
             808 => self.words_for(a.reg, b.val, CFP_B),              // CTB
             811 => next = branch(self.take_digit()?, a.val),         // CVM

@@ -1,47 +1,13 @@
 //! Random decks, lawful for the most part, and ways to spoil them.
 #![allow(dead_code)]
 
+pub mod lent;
+mod random;
+pub mod real_machine;
+pub mod reals;
+
+pub use random::{cases, share, Random};
 use torzimlak_plain::ops::{Class, Format, Row, Slot, ROWS};
-
-/// Numbers that look random, from a seed.
-pub struct Random(u64);
-
-impl Random {
-    pub fn new(seed: u64) -> Random {
-        Random(seed.wrapping_mul(0x9E37_79B9_7F4A_7C15) | 1)
-    }
-
-    pub fn next(&mut self) -> u64 {
-        self.0 ^= self.0 << 13;
-        self.0 ^= self.0 >> 7;
-        self.0 ^= self.0 << 17;
-        self.0.wrapping_mul(0x2545_F491_4F6C_DD1D)
-    }
-
-    /// A number below n.
-    pub fn below(&mut self, n: usize) -> usize {
-        ((self.next() >> 33) % n as u64) as usize
-    }
-
-    /// True once in n.
-    pub fn once_in(&mut self, n: usize) -> bool {
-        self.below(n) == 0
-    }
-
-    pub fn pick<'a, T>(&mut self, all: &'a [T]) -> &'a T {
-        &all[self.below(all.len())]
-    }
-}
-
-/// Cases of a test: all of them, or with TORZIMLAK_SHARE=20 in the environment, as valgrind's run has it, one in twenty.
-pub fn cases(all: usize) -> usize {
-    all.div_ceil(share())
-}
-
-/// One in how many cases is tried.
-pub fn share() -> usize {
-    std::env::var("TORZIMLAK_SHARE").map_or(1, |s| s.parse().expect("TORZIMLAK_SHARE is a number from 1"))
-}
 
 /// What a deck declares.
 struct Names {
@@ -116,7 +82,7 @@ fn operand(r: &mut Random, names: &Names, slot: Slot, label: &str) -> String {
         Format::Plbl => label.into(),
         Format::Glbl => "GLB00".into(),
         Format::Pnam => procedure(0),
-        Format::None | Format::Ptyp | Format::Eqop | Format::Addr | Format::Integer => ".".into(),
+        Format::None | Format::Ptyp | Format::Eqop | Format::Addr | Format::Integer | Format::Real => ".".into(),
     }
 }
 
@@ -205,11 +171,20 @@ fn body(r: &mut Random, names: &Names, prefix: &str, inside: Option<usize>, deck
     });
 }
 
+/// A decimal that a DRC takes.
+pub fn decimal(r: &mut Random) -> String {
+    let digits = |r: &mut Random, n: usize| -> String { (0..n).map(|_| *r.pick(&['0', '1', '5', '7', '9'])).collect() };
+    let (before, behind) = (1 + r.below(9), r.below(7));
+    format!("{}{}.{}", r.pick(&["", "+", "-"]), digits(r, before), digits(r, behind))
+}
+
 /// A random deck.
 pub fn deck(r: &mut Random) -> Vec<String> {
     let names = Names {
         equals: (0..r.below(4)).map(|i| format!("EQU{i:02}")).collect(),
-        words: (0..r.below(6)).map(|i| if r.once_in(4) { format!("F$W{i:02}") } else { format!("WRD{i:02}") }).collect(),
+        words: (0..r.below(6))
+            .map(|i| if r.once_in(4) { format!("F$W{i:02}") } else { format!("WRD{i:02}") })
+            .collect(),
         entries: r.below(3),
         procedures: (0..r.below(4)).map(|_| r.below(3)).collect(),
         externals: (0..r.below(3)).map(|_| r.below(3)).collect(),
@@ -235,10 +210,11 @@ pub fn deck(r: &mut Random) -> Vec<String> {
         if i == constants {
             d.push(" SEC".into());
         }
-        d.push(match r.below(4) {
+        d.push(match r.below(5) {
             0 => format!("{w} DIC {}{}", if r.once_in(2) { "-" } else { "+" }, r.next() >> 34),
             1 => format!("{w} DTC /{}/", &"SOME TEXT OF WORDS"[..1 + r.below(17)]),
             2 => format!("{w} DBC {}", r.below(2000)),
+            3 => format!("{w} DRC {}", decimal(r)),
             _ => format!("{w} DAC {}", r.below(200)),
         });
     }
@@ -290,7 +266,8 @@ pub fn spoil(r: &mut Random, deck: &mut Vec<String>) {
             deck.insert(i, format!(" {} {tail}", row.mnemonic));
         }
         4 => {
-            let words: Vec<String> = deck.iter().flat_map(|l| l.split([' ', ',']).map(String::from)).filter(|w| !w.is_empty()).collect();
+            let words: Vec<String> =
+                deck.iter().flat_map(|l| l.split([' ', ',']).map(String::from)).filter(|w| !w.is_empty()).collect();
             if words.is_empty() {
                 return;
             }

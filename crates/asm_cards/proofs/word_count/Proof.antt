@@ -40,7 +40,28 @@ returns-3 c = (
     ← c .before .before .before .is-one-word .ensures,
     c .before .before .if2 .left,
     ← c .before .is-assembly .ensures,
-    not-true (c .before .is-assembly .result) (c .if3 .taken),
+    c .if3 .taken,
+  ),
+  omega arith,
+)
+
+-- src/lib.rt:136:9
+is-assembly-requires-2 : tie.Need-is-assembly-requires-2
+is-assembly-requires-2 c κs = search needs
+
+-- src/lib.rt:137:9
+returns-4 : tie.Need-returns-4
+unfolding wordCount if
+returns-4 c = (
+  rw (
+    ← c .before .before .before .before .before .before .before .of-words .ensures (c .before .before .before .before .before .before .before .before .before .args .s .now),
+    not-false (c .before .before .before .before .before .before .before .of-words .result) (c .before .before .before .before .before .before .if1 .left),
+    ← c .before .before .before .before .before .is-one-word .ensures,
+    c .before .before .before .before .if2 .left,
+    ← c .before .before .before .is-assembly .ensures,
+    c .before .before .if3 .left,
+    ← c .before .is-assembly2 .ensures,
+    not-true (c .before .is-assembly2 .result) (c .if4 .taken),
   ),
   omega arith,
 )
@@ -50,16 +71,18 @@ text-words-requires : tie.Need-text-words-requires
 text-words-requires c κs = search needs
 
 -- src/lib.rt:122:1
-returns-4 : tie.Need-returns-4
+returns-5 : tie.Need-returns-5
 unfolding wordCount if
-returns-4 c = (
+returns-5 c = (
   rw (
-    ← c .before .before .before .before .before .before .of-words .ensures (c .before .before .before .before .before .before .before .before .args .s .now),
-    not-false (c .before .before .before .before .before .before .of-words .result) (c .before .before .before .before .before .if1 .left),
-    ← c .before .before .before .before .is-one-word .ensures,
-    c .before .before .before .if2 .left,
-    ← c .before .before .is-assembly .ensures,
-    not-false (c .before .before .is-assembly .result) (c .before .if3 .left),
+    ← c .before .before .before .before .before .before .before .before .of-words .ensures (c .before .before .before .before .before .before .before .before .before .before .args .s .now),
+    not-false (c .before .before .before .before .before .before .before .before .of-words .result) (c .before .before .before .before .before .before .before .if1 .left),
+    ← c .before .before .before .before .before .before .is-one-word .ensures,
+    c .before .before .before .before .before .if2 .left,
+    ← c .before .before .before .before .is-assembly .ensures,
+    c .before .before .before .if3 .left,
+    ← c .before .before .is-assembly2 .ensures,
+    not-false (c .before .before .is-assembly2 .result) (c .before .if4 .left),
   ) (c .text-words .ensures .0),
   omega (arith, c .text-words .ensures .1),
 )
@@ -74,5 +97,7 @@ word-count-spec =
     returns-2
     is-assembly-requires
     returns-3
+    is-assembly-requires-2
+    returns-4
     text-words-requires
-    returns-4)
+    returns-5)

@@ -1,23 +1,18 @@
--- `asm_outcomes::field_form` meets its contract: the field is a part of the line.
+-- `asm_outcomes::field_form` meets its contract: the field is a part of the line, read as a DRC's or as another card's.
 -- Assumes nothing.
-use Prim.Native.Nat.{ℕ}
-use mathlib.Core.Path.{ap, _∙_}
-use mathlib.Core.List.{List, map}
-use lib.ListN.{getD}
+use mathlib.Core.Path.{_∙_}
 use denote.Ref.{now}
-use Rattle.language.specs.Form.{formOf, formless, textsIn}
-use Rattle.asm_types.specs.Views.{cutForm}
+use Rattle.asm_outcomes.proofs.Written.{form-read}
 use Rattle.asm_text.proofs.Slices.{field-part}
 use borrow.Author.Needs.{needs}
 use Rattle.asm_outcomes.proofs.field_form.Statement.{statement}
 use Rattle.asm_outcomes.proofs.field_form.Tie as tie
-use Rattle.asm_outcomes.proofs.field_form.Reads as reads
-use Rattle.asm_outcomes.proofs.field_form.Lts as lts
-use Rattle.asm_forms.proofs.texts.form_at.Reads as form-at-reads
-use Rattle.asm_text.proofs.fields_of.Reads as fields-of-reads
 
 fields-of-requires : tie.Need-fields-of-requires
 fields-of-requires c κs = search needs
+
+is-assembly-requires : tie.Need-is-assembly-requires
+is-assembly-requires c κs = search needs
 
 sub-form-at : tie.Need-sub-form-at
 sub-form-at c = search needs
@@ -32,13 +27,16 @@ form-at-requires : tie.Need-form-at-requires
 form-at-requires c κs = search needs
 
 returns : tie.Need-returns
-returns c = c .form-at .ensures ∙ ap (λ (l : List ℕ). cutForm (getD (map formOf (textsIn l)) (c .before .before .before .before .args .i) formless)) (field-part (now (c .before .before .before .before .args .s)) _ (c .before .before .fields-of .ensures))
+returns c =
+    c .form-at .ensures
+    ∙ form-read _ _ _ _ (c .before .before .is-assembly .ensures) (field-part (now (c .before .before .before .before .before .args .s)) _ (c .before .before .before .fields-of .ensures)) (c .before .before .before .before .before .args .i)
 
 pub field-form-spec : {M : Type 1} → statement M
 field-form-spec =
     tie.close
     (tie.spec
     fields-of-requires
+    is-assembly-requires
     sub-form-at
     part-form-at-start
     part-form-at-end

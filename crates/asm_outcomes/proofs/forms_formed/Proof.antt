@@ -6,7 +6,8 @@ use mathlib.Core.List.{map}
 use borrow.Author.Tests.{not-true, not-false}
 use lib.ListN.{getD}
 use denote.Ref.{now}
-use Rattle.language.specs.Form.{allFormed, formOf, formless, isFormless}
+use Rattle.language.specs.Form.{allFormed, formBy, formless, isFormless}
+use Rattle.language.specs.Operation.{DRC, isAssembly}
 use Rattle.language.specs.Fault.{formsOf, operandsFormed}
 use Rattle.asm_types.specs.Views.{operationView}
 use Rattle.asm_outcomes.proofs.Written.{all-written, cut-formless, first-none, first-some, first-written, none-written, one-formed, texts}
@@ -48,7 +49,7 @@ returns-3 : tie.Need-returns-3
 unfolding operandsFormed formsOf
 returns-3 c =
     sym (ap allFormed (first-written (operationView (c .before .before .before .before .before .before .before .args .c .operation)) (now (c .before .before .before .before .before .before .before .args .s)) (λ e. c .before .before .before .before .if1 .left (c .before .before .before .before .before .format-count .ensures ∙ e)) (sym (c .before .before .before .has-text .ensures) ∙ not-false _ (c .before .before .if2 .left))
-    ∙ first-none (texts (now (c .before .before .before .before .before .before .before .args .s))) (sym (c .before .field-count .ensures) ∙ c .if3 .taken)))
+    ∙ first-none (isAssembly DRC (operationView (c .before .before .before .before .before .before .before .args .c .operation))) (texts (now (c .before .before .before .before .before .before .before .args .s))) (sym (c .before .field-count .ensures) ∙ c .if3 .taken)))
 
 field-form-requires : tie.Need-field-form-requires
 field-form-requires c κs = search needs
@@ -59,11 +60,11 @@ is-formless-requires c κs = search needs
 returns-4 : tie.Need-returns-4
 unfolding operandsFormed formsOf
 returns-4 c =
-    let o = getD (map formOf (texts (now (c .before .before .before .before .before .before .before .before .before .args .s)))) 0 formless in
+    let o = getD (map (formBy (isAssembly DRC (operationView (c .before .before .before .before .before .before .before .before .before .args .c .operation)))) (texts (now (c .before .before .before .before .before .before .before .before .before .args .s)))) 0 formless in
     ap not (c .is-formless .ensures ∙ ap isFormless (c .before .field-form .ensures) ∙ cut-formless o)
     ∙ sym (one-formed o)
     ∙ sym (ap allFormed (first-written (operationView (c .before .before .before .before .before .before .before .before .before .args .c .operation)) (now (c .before .before .before .before .before .before .before .before .before .args .s)) (λ e. c .before .before .before .before .before .before .if1 .left (c .before .before .before .before .before .before .before .format-count .ensures ∙ e)) (sym (c .before .before .before .before .before .has-text .ensures) ∙ not-false _ (c .before .before .before .before .if2 .left))
-    ∙ first-some (texts (now (c .before .before .before .before .before .before .before .before .before .args .s))) (λ e. c .before .before .if3 .left (c .before .before .before .field-count .ensures ∙ e))))
+    ∙ first-some (isAssembly DRC (operationView (c .before .before .before .before .before .before .before .before .before .args .c .operation))) (texts (now (c .before .before .before .before .before .before .before .before .before .args .s))) (λ e. c .before .before .if3 .left (c .before .before .before .field-count .ensures ∙ e))))
 
 pub forms-formed-spec : {M : Type 1} → statement M
 forms-formed-spec =

@@ -48,22 +48,22 @@ within-requires-3 c κs = search needs
 -- src/lib.rt:79:9
 returns-5 : tie.Need-returns-5
 unfolding if
-returns-5 c = c .within3 .ensures ∙ rw (section-by (c .before .before .before .before .before .before .before .args .opened) (operationView (c .before .before .before .before .before .before .before .args .o)) _ (c .before .before .before .before .before .before .code-of .ensures), ne-eqb _ 0 (c .before .before .before .before .before .if1 .left), lt-leb _ 3 (c .before .before .before .before .if2 .left), lt-leb _ 7 (c .before .before .before .if3 .left), ne-eqb _ 8 (c .before .before .if4 .left), le-leb _ 12 (c .before .if5 .taken))
+returns-5 c = c .within3 .ensures ∙ rw (section-by (c .before .before .before .before .before .before .before .args .opened) (operationView (c .before .before .before .before .before .before .before .args .o)) _ (c .before .before .before .before .before .before .code-of .ensures), ne-eqb _ 0 (c .before .before .before .before .before .if1 .left), lt-leb _ 3 (c .before .before .before .before .if2 .left), lt-leb _ 7 (c .before .before .before .if3 .left), ne-eqb _ 8 (c .before .before .if4 .left), le-leb _ 13 (c .before .if5 .taken))
 
 -- src/lib.rt:82:9
 returns-6 : tie.Need-returns-6
 unfolding if
-returns-6 c = rw (section-by (c .before .before .before .before .before .before .before .args .opened) (operationView (c .before .before .before .before .before .before .before .args .o)) _ (c .before .before .before .before .before .before .code-of .ensures), ne-eqb _ 0 (c .before .before .before .before .before .if1 .left), lt-leb _ 3 (c .before .before .before .before .if2 .left), lt-leb _ 7 (c .before .before .before .if3 .left), ne-eqb _ 8 (c .before .before .if4 .left), lt-leb _ 12 (c .before .if5 .left), eq-eqb _ 15 (c .if6 .taken))
+returns-6 c = rw (section-by (c .before .before .before .before .before .before .before .args .opened) (operationView (c .before .before .before .before .before .before .before .args .o)) _ (c .before .before .before .before .before .before .code-of .ensures), ne-eqb _ 0 (c .before .before .before .before .before .if1 .left), lt-leb _ 3 (c .before .before .before .before .if2 .left), lt-leb _ 7 (c .before .before .before .if3 .left), ne-eqb _ 8 (c .before .before .if4 .left), lt-leb _ 13 (c .before .if5 .left), eq-eqb _ 16 (c .if6 .taken))
 
 -- src/lib.rt:85:9
 returns-7 : tie.Need-returns-7
 unfolding if
-returns-7 c = rw (section-by (c .before .before .before .before .before .before .before .before .args .opened) (operationView (c .before .before .before .before .before .before .before .before .args .o)) _ (c .before .before .before .before .before .before .before .code-of .ensures), ne-eqb _ 0 (c .before .before .before .before .before .before .if1 .left), lt-leb _ 3 (c .before .before .before .before .before .if2 .left), lt-leb _ 7 (c .before .before .before .before .if3 .left), ne-eqb _ 8 (c .before .before .before .if4 .left), lt-leb _ 12 (c .before .before .if5 .left), ne-eqb _ 15 (c .before .if6 .left), eq-eqb _ 16 (c .if7 .taken))
+returns-7 c = rw (section-by (c .before .before .before .before .before .before .before .before .args .opened) (operationView (c .before .before .before .before .before .before .before .before .args .o)) _ (c .before .before .before .before .before .before .before .code-of .ensures), ne-eqb _ 0 (c .before .before .before .before .before .before .if1 .left), lt-leb _ 3 (c .before .before .before .before .before .if2 .left), lt-leb _ 7 (c .before .before .before .before .if3 .left), ne-eqb _ 8 (c .before .before .before .if4 .left), lt-leb _ 13 (c .before .before .if5 .left), ne-eqb _ 16 (c .before .if6 .left), eq-eqb _ 17 (c .if7 .taken))
 
 -- src/lib.rt:62:1
 returns-8 : tie.Need-returns-8
 unfolding if
-returns-8 c = rw (section-by (c .before .before .before .before .before .before .before .before .args .opened) (operationView (c .before .before .before .before .before .before .before .before .args .o)) _ (c .before .before .before .before .before .before .before .code-of .ensures), ne-eqb _ 0 (c .before .before .before .before .before .before .if1 .left), lt-leb _ 3 (c .before .before .before .before .before .if2 .left), lt-leb _ 7 (c .before .before .before .before .if3 .left), ne-eqb _ 8 (c .before .before .before .if4 .left), lt-leb _ 12 (c .before .before .if5 .left), ne-eqb _ 15 (c .before .if6 .left), ne-eqb _ 16 (c .if7 .left))
+returns-8 c = rw (section-by (c .before .before .before .before .before .before .before .before .args .opened) (operationView (c .before .before .before .before .before .before .before .before .args .o)) _ (c .before .before .before .before .before .before .before .code-of .ensures), ne-eqb _ 0 (c .before .before .before .before .before .before .if1 .left), lt-leb _ 3 (c .before .before .before .before .before .if2 .left), lt-leb _ 7 (c .before .before .before .before .if3 .left), ne-eqb _ 8 (c .before .before .before .if4 .left), lt-leb _ 13 (c .before .before .if5 .left), ne-eqb _ 16 (c .before .if6 .left), ne-eqb _ 17 (c .if7 .left))
 
 pub of-section-spec : {M : Type 1} → statement M
 of-section-spec =

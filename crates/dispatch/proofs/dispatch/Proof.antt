@@ -1,16 +1,16 @@
 use mathlib.Core.Path.{refl, sym, ap, _∙_}
 use native.Mathlib.Omega.{arith}
 use Prim.Native.Nat.{ℕ}
-use Rattle.base.specs.Test.{if}
+use Rattle.base.specs.Lists.{_at_}
+use Rattle.base.specs.Test.{_and_, _or_, if}
 use Rattle.ops.specs.Class as Class
 use Rattle.ops.specs.Ops as Op
 use Rattle.ops.specs.Ops.{rows}
 use Rattle.exec_core.specs.Views.{does}
-use Rattle.exec_core.specs.Entry.{branching, going, heldHere, inRegister, isPlace, pointing, readable, writable}
+use Rattle.exec_core.specs.Entry.{branching, going, heldHere, inRegister, isPlace, pointing, readable, steady, writable}
 use Rattle.exec_core.specs.Seen.{openLinks}
 use Rattle.exec_core.proofs.Entries.{entry-of, ready-inside}
 use Rattle.exec_core.proofs.Steps.{ready, memory-most, goes-step, forks-step, controls-step}
-use Rattle.exec_integers.specs.Integers.{steady}
 use Rattle.exec_bits.proofs.Takes as bits
 use Rattle.exec_blocks.proofs.Takes as blocks
 use Rattle.exec_branches.proofs.Takes as branches
@@ -19,7 +19,7 @@ use Rattle.exec_integers.proofs.Takes as integers
 use Rattle.exec_moves.proofs.Takes as moves
 use Rattle.exec_calls.proofs.Linked.{links-count}
 use Rattle.exec_control.proofs.Ready.{stands, few-links, open-links, roomy-memory}
-use Rattle.dispatch.proofs.Listed.{unlisted}
+use Rattle.dispatch.proofs.Listed.{above-reals, below-reals, between-reals, converts-listed, real-listed, unlisted}
 use borrow.Author.Needs.{needs}
 use Rattle.dispatch.proofs.dispatch.Statement.{statement}
 use Rattle.dispatch.proofs.dispatch.Tie as tie
@@ -761,9 +761,36 @@ returns-83 : tie.Need-returns-83
 unfolding rows if
 returns-83 c = (c .chk .ensures (c .before .before .before .before .before .before .before .args .c) (openLinks (c .before .before .before .before .before .before .before .args .links .now)) ∙ controls-step (c .before .before .before .before .before .before .before .pre) 1001 Class.CHK Op.checks (c .before .before .before .match .keys83) refl refl, refl)
 
+same-length-50 : tie.Need-same-length-50
+same-length-50 c = search needs
+
 returns-84 : tie.Need-returns-84
-unfolding rows
-returns-84 c = absurd (unlisted (c .before .before .before .before .pre) (c .match .rest))
+returns-84 c = search needs
+
+same-length-51 : tie.Need-same-length-51
+same-length-51 c = search needs
+
+returns-85 : tie.Need-returns-85
+returns-85 c = search needs
+
+real-step-requires : tie.Need-real-step-requires
+real-step-requires c κs = (c .before .before .before .before .before .before .before .before .before .pre, real-listed _ (omega (arith, c .before .before .before .before .if1 .left)) (omega (arith, c .before .before .before .if2 .taken)))
+
+real-step-requires-2 : tie.Need-real-step-requires-2
+real-step-requires-2 c κs = (c .before .before .before .before .before .before .before .before .before .before .before .pre, converts-listed _ (c .before .before .before .before .if3 .left) (c .before .before .before .before .before .before .before .match .rest .0 .0 .0 .0 .0 .0 .0 .0 .0 .0 .0 .0 .1) (c .before .before .before .before .before .before .before .match .rest .0 .0 .0 .0 .0 .0 .0 .0 .0 .0 .0 .1) (c .before .before .before .before .before .before .before .match .rest .0 .0 .0 .0 .0 .0 .0 .0 .0 .0 .1) (c .before .before .before .before .before .before .before .match .rest .0 .0 .0 .0 .0 .0 .0 .0 .0 .1) (c .before .before .before .if4 .taken))
+
+returns-86 : tie.Need-returns-86
+unfolding rows _and_ _or_
+returns-86 c = absurd (unlisted (c .before .before .before .before .before .pre) (c .before .match .rest) (below-reals (c .before .before .before .before .before .args .t .now at c .before .before .before .before .before .args .b) (omega (arith, c .if1 .taken))))
+
+returns-87 : tie.Need-returns-87
+unfolding rows _and_ _or_
+returns-87 c =
+    absurd (unlisted (c .before .before .before .before .before .before .before .pre) (c .before .before .before .match .rest) (between-reals (c .before .before .before .before .before .before .before .args .t .now at c .before .before .before .before .before .before .before .args .b) (omega (arith, c .before .if2 .left)) (omega (arith, c .if3 .taken))))
+
+returns-88 : tie.Need-returns-88
+unfolding rows _and_ _or_
+returns-88 c = absurd (unlisted (c .before .before .before .before .before .before .before .before .pre) (c .before .before .before .before .match .rest) (above-reals (c .before .before .before .before .before .before .before .before .args .t .now at c .before .before .before .before .before .before .before .before .args .b) (omega (arith, c .if4 .left))))
 
 pub dispatch-spec : {M : Type 1} → statement M
 dispatch-spec =
@@ -855,6 +882,8 @@ dispatch-spec =
     mvc-requires
     mvw-requires
     chk-requires
+    real-step-requires
+    real-step-requires-2
     same-length
     returns
     returns-2
@@ -987,4 +1016,10 @@ dispatch-spec =
     returns-82
     same-length-49
     returns-83
-    returns-84)
+    same-length-50
+    returns-84
+    same-length-51
+    returns-85
+    returns-86
+    returns-87
+    returns-88)

@@ -16,10 +16,10 @@ use Rattle.supplied.proofs.supplied_value.Tie as tie
 
 abbrev Inv-loop : tie.InvT-loop
 Inv-loop a b c d e key table i₀ i =
-    (i ≤ 44) × (table ≡ map supplyCells supplies) × (valueAt (firstWith byCell key i (drop i table)) ≡ suppliedOf a b c d e)
+    (i ≤ 45) × (table ≡ map supplyCells supplies) × (valueAt (firstWith byCell key i (drop i table)) ≡ suppliedOf a b c d e)
 
 abbrev μ-loop : tie.MeasureT-loop
-μ-loop a b c d e key table i₀ i = 44 - i
+μ-loop a b c d e key table i₀ i = 45 - i
 
 pack-name-requires : tie.Need-pack-name-requires Inv-loop μ-loop
 pack-name-requires c κs = search needs

@@ -8,10 +8,10 @@ use Rattle.tool_operations.proofs.show_rows.Statement.{statement}
 use Rattle.tool_operations.proofs.show_rows.Tie as tie
 
 abbrev Inv-loop : tie.InvT-loop
-Inv-loop table page₀ at₀ i₀ page at i = (i ≤ 89) × (length page ≡ 4096)
+Inv-loop table page₀ at₀ i₀ page at i = (i ≤ 106) × (length page ≡ 4096)
 
 abbrev μ-loop : tie.MeasureT-loop
-μ-loop table page₀ at₀ i₀ page at i = 89 - i
+μ-loop table page₀ at₀ i₀ page at i = 106 - i
 
 rows-requires : tie.Need-rows-requires Inv-loop μ-loop
 rows-requires c κs = search needs

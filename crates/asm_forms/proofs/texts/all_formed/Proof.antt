@@ -6,22 +6,22 @@ use mathlib.Core.List.{List, map}
 use native.Mathlib.Omega.{arith}
 use lib.ListN.{length}
 use denote.Ref.{now}
-use Rattle.language.specs.Form.{allFormed, formOf, textsIn}
+use Rattle.language.specs.Form.{allFormed, formBy, textsIn}
 use Rattle.asm_forms.proofs.Divided.{formed-last, formed-more, formedFrom, formless-text, texts-long, texts-none}
 use borrow.Author.Needs.{needs}
 use Rattle.asm_forms.proofs.texts.all_formed.Statement.{statement}
 use Rattle.asm_forms.proofs.texts.all_formed.Tie as tie
 use Rattle.asm_forms.proofs.texts.all_formed.Reads as reads
 use Rattle.asm_forms.proofs.texts.all_formed.Lts as lts
-use Rattle.asm_forms.proofs.operand.form_of.Reads as form-of-reads
+use Rattle.asm_forms.proofs.texts.form_by.Reads as form-by-reads
 use Rattle.asm_forms.proofs.texts.is_formless.Reads as is-formless-reads
 use Rattle.asm_text.proofs.find_byte.Reads as find-byte-reads
 
 abbrev Inv-loop : tie.InvT-loop
-Inv-loop f from₀ from = (formedFrom f from ≡ allFormed (map formOf (textsIn f))) × (from ≤ length f)
+Inv-loop real f from₀ from = (formedFrom real f from ≡ allFormed (map (formBy real) (textsIn f))) × (from ≤ length f)
 
 abbrev μ-loop : tie.MeasureT-loop
-μ-loop f from₀ from = length f - from
+μ-loop real f from₀ from = length f - from
 
 -- src/texts.rt:95:9
 returns : tie.Need-returns Inv-loop μ-loop
@@ -29,27 +29,27 @@ returns c = rw (texts-none (now (c .before .before .args .f)) (c .if1 .taken)) r
 
 -- src/texts.rt:98:5
 loop-holds : tie.Need-loop-holds Inv-loop μ-loop
-loop-holds c = (ap (λ (l : List (List ℕ)). allFormed (map formOf l)) (texts-long (now (c .before .before .args .f)) (c .if1 .left)), search needs)
+loop-holds c = (ap (λ (l : List (List ℕ)). allFormed (map (formBy (c .before .before .args .real)) l)) (texts-long (now (c .before .before .args .f)) (c .if1 .left)), search needs)
 
 -- src/texts.rt:99:13
 find-byte-requires : tie.Need-find-byte-requires Inv-loop μ-loop
 find-byte-requires c κs = c .loop .inv .1
 
 -- src/texts.rt:100:32
-sub-form-of : tie.Need-sub-form-of Inv-loop μ-loop
-sub-form-of c = search needs
+sub-form-by : tie.Need-sub-form-by Inv-loop μ-loop
+sub-form-by c = search needs
 
 -- src/texts.rt:100:32
-part-form-of-start : tie.Need-part-form-of-start Inv-loop μ-loop
-part-form-of-start c = search needs
+part-form-by-start : tie.Need-part-form-by-start Inv-loop μ-loop
+part-form-by-start c = search needs
 
 -- src/texts.rt:100:32
-part-form-of-end : tie.Need-part-form-of-end Inv-loop μ-loop
-part-form-of-end c = search needs
+part-form-by-end : tie.Need-part-form-by-end Inv-loop μ-loop
+part-form-by-end c = search needs
 
 -- src/texts.rt:100:24
-form-of-requires : tie.Need-form-of-requires Inv-loop μ-loop
-form-of-requires c κs = search needs
+form-by-requires : tie.Need-form-by-requires Inv-loop μ-loop
+form-by-requires c κs = search needs
 
 -- src/texts.rt:100:12
 is-formless-requires : tie.Need-is-formless-requires Inv-loop μ-loop
@@ -58,13 +58,13 @@ is-formless-requires c κs = search needs
 -- src/texts.rt:101:13
 returns-2 : tie.Need-returns-2 Inv-loop μ-loop
 returns-2 c =
-    formless-text (now (c .before .before .before .before .before .before .before .before .args .f)) _ _ (c .before .before .before .before .find-byte .ensures .0) (c .before .before .before .before .before .loop .inv .1) _ (c .before .before .form-of .ensures)
+    formless-text (c .before .before .before .before .before .before .before .before .args .real) (now (c .before .before .before .before .before .before .before .before .args .f)) _ _ (c .before .before .before .before .find-byte .ensures .0) (c .before .before .before .before .before .loop .inv .1) _ (c .before .before .form-by .ensures)
     (sym (c .before .is-formless .ensures) ∙ c .if2 .taken) ∙ c .before .before .before .before .before .loop .inv .0
 
 -- src/texts.rt:104:13
 returns-3 : tie.Need-returns-3 Inv-loop μ-loop
 returns-3 c =
-    formed-last (now (c .before .before .before .before .before .before .before .before .before .args .f)) _ _ (c .before .before .before .before .before .find-byte .ensures .0) (c .before .before .before .before .before .before .loop .inv .1) _ (c .before .before .before .form-of .ensures)
+    formed-last (c .before .before .before .before .before .before .before .before .before .args .real) (now (c .before .before .before .before .before .before .before .before .before .args .f)) _ _ (c .before .before .before .before .before .find-byte .ensures .0) (c .before .before .before .before .before .before .loop .inv .1) _ (c .before .before .before .form-by .ensures)
     (sym (c .before .before .is-formless .ensures) ∙ c .before .if2 .left) (omega (arith, c .if3 .taken)) ∙ c .before .before .before .before .before .before .loop .inv .0
 
 -- src/texts.rt:106:16
@@ -78,7 +78,7 @@ loop-less c = search needs
 -- src/texts.rt:98:5
 loop-again : tie.Need-loop-again Inv-loop μ-loop
 loop-again c = (
-  formed-more (now (c .before .before .before .before .before .before .before .before .before .args .f)) _ _ (c .before .before .before .before .before .find-byte .ensures .0) (c .before .before .before .before .before .before .loop .inv .1) _ (c .before .before .before .form-of .ensures)
+  formed-more (c .before .before .before .before .before .before .before .before .before .args .real) (now (c .before .before .before .before .before .before .before .before .before .args .f)) _ _ (c .before .before .before .before .before .find-byte .ensures .0) (c .before .before .before .before .before .before .loop .inv .1) _ (c .before .before .before .form-by .ensures)
       (sym (c .before .before .is-formless .ensures) ∙ c .before .if2 .left) (omega (arith, c .if3 .left, c .before .before .before .before .before .find-byte .ensures .1)) ∙ c .before .before .before .before .before .before .loop .inv .0,
   omega (arith, c .if3 .left, c .before .before .before .before .before .find-byte .ensures .1),
 )
@@ -92,10 +92,10 @@ all-formed-spec =
     returns
     loop-holds
     find-byte-requires
-    sub-form-of
-    part-form-of-start
-    part-form-of-end
-    form-of-requires
+    sub-form-by
+    part-form-by-start
+    part-form-by-end
+    form-by-requires
     is-formless-requires
     returns-2
     returns-3

@@ -129,6 +129,12 @@ enum-known-form-13 c = search needs
 negative-requires : tie.Need-negative-requires
 negative-requires c κs = search needs
 
+enum-told-4 : tie.Need-enum-told-4
+enum-told-4 c = search needs
+
+value-of-requires-2 : tie.Need-value-of-requires-2
+value-of-requires-2 c κs = search needs
+
 returns : tie.Need-returns
 returns c = rw (c .enum-told .given .1) refl
 
@@ -181,6 +187,9 @@ returns-15 c = c .value-within .ensures ∙ rw (c .before .before .form12 .given
 returns-16 : tie.Need-returns-16
 returns-16 c = c .negative .ensures ∙ rw (c .before .before .form13 .given .1) refl
 
+returns-17 : tie.Need-returns-17
+returns-17 c = c .value-of2 .ensures ∙ rw (c .before .enum-told4 .given .1) refl
+
 pub resolved-spec : {M : Type 1} → statement M
 resolved-spec =
     tie.close
@@ -219,6 +228,8 @@ resolved-spec =
     value-within-requires
     enum-known-form-13
     negative-requires
+    enum-told-4
+    value-of-requires-2
     returns
     returns-2
     returns-3
@@ -234,4 +245,5 @@ resolved-spec =
     returns-13
     returns-14
     returns-15
-    returns-16)
+    returns-16
+    returns-17)

@@ -111,6 +111,12 @@ enum-told-11 c = search needs
 is-tag-requires-8 : tie.Need-is-tag-requires-8
 is-tag-requires-8 c κs = search needs
 
+enum-told-12 : tie.Need-enum-told-12
+enum-told-12 c = search needs
+
+is-tag-requires-9 : tie.Need-is-tag-requires-9
+is-tag-requires-9 c κs = search needs
+
 returns : tie.Need-returns
 unfolding takes
 returns c = rw (c .enum-told .given .1) refl
@@ -175,6 +181,10 @@ returns-16 : tie.Need-returns-16
 unfolding takes
 returns-16 c = c .is-tag8 .ensures ∙ rw (c .before .enum-told11 .given .1) (sym (or-false _))
 
+returns-17 : tie.Need-returns-17
+unfolding takes
+returns-17 c = c .is-tag9 .ensures ∙ rw (c .before .enum-told12 .given .1) (sym (or-false _))
+
 pub takes-spec : {M : Type 1} → statement M
 takes-spec =
     tie.close
@@ -211,6 +221,8 @@ takes-spec =
     is-tag-requires-7
     enum-told-11
     is-tag-requires-8
+    enum-told-12
+    is-tag-requires-9
     returns
     returns-2
     returns-3
@@ -226,4 +238,5 @@ takes-spec =
     returns-13
     returns-14
     returns-15
-    returns-16)
+    returns-16
+    returns-17)

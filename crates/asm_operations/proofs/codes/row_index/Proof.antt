@@ -30,22 +30,22 @@ enum-known-o c = search needs
 -- src/codes.rt:61:1
 returns : tie.Need-returns
 unfolding rowOf
-returns c = rw (c .enum-told .given .1) (row-past 89 (omega arith))
+returns c = rw (c .enum-told .given .1) (row-past 106 (omega arith))
 
 -- src/codes.rt:61:1
 returns-2 : tie.Need-returns-2
 unfolding rowOf
-returns-2 c = rw (c .enum-told2 .given .1) (row-past 89 (omega arith))
+returns-2 c = rw (c .enum-told2 .given .1) (row-past 106 (omega arith))
 
 -- src/codes.rt:61:1
 returns-3 : tie.Need-returns-3
 unfolding rowOf
-returns-3 c = rw (c .enum-told3 .given .1) (row-past 89 (omega arith))
+returns-3 c = rw (c .enum-told3 .given .1) (row-past 106 (omega arith))
 
 -- src/codes.rt:61:1
 returns-4 : tie.Need-returns-4
 unfolding rowOf
-returns-4 c = rw (c .enum-told4 .given .1) (row-past 89 (omega arith))
+returns-4 c = rw (c .enum-told4 .given .1) (row-past 106 (omega arith))
 
 -- src/codes.rt:61:1
 returns-5 : tie.Need-returns-5

@@ -31,7 +31,7 @@ returns c =
 cast-t10 : tie.Need-cast-t10
 cast-t10 c =
     let f = c .before .before .before in
-    let i : c .before .found .given .0 .0 < 13 =
+    let i : c .before .found .given .0 .0 < 14 =
     assembly-inside _ (f .before .before .assemblies .ensures) _ _ _ _ (f .find-letters-in .ensures) _ (c .before .found .given .1) in
     search needs
 

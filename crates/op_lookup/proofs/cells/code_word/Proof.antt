@@ -12,7 +12,7 @@ use Rattle.op_lookup.proofs.cells.code_word.Tie as tie
 past : (n k : ℕ) → n ≤ k → (k ≡ n → ⊥) → suc n ≤ k
 past n k h e = omega arith
 
-none-past : (k : ℕ) → 26 ≤ k → 1 ≡ codeWord k
+none-past : (k : ℕ) → 27 ≤ k → 1 ≡ codeWord k
 none-past k h = ap formatWord (sym (List·getD-eq-default formats NONE {n = k} h))
 
 returns : tie.Need-returns
@@ -94,37 +94,41 @@ returns-26 : tie.Need-returns-26
 returns-26 c = rw (c .match .keys26) refl
 
 returns-27 : tie.Need-returns-27
-returns-27 c =
+returns-27 c = rw (c .match .keys27) refl
+
+returns-28 : tie.Need-returns-28
+returns-28 c =
     let r = c .match .rest in
     let k = c .before .args .code in
     let h0 : 0 ≤ k = omega arith in
-    let h1 : 1 ≤ k = past 0 k h0 (r .0 .0 .0 .0 .0 .0 .0 .0 .0 .0 .0 .0 .0 .0 .0 .0 .0 .0 .0 .0 .0 .0 .0 .0 .0 .1) in
-    let h2 : 2 ≤ k = past 1 k h1 (r .0 .0 .0 .0 .0 .0 .0 .0 .0 .0 .0 .0 .0 .0 .0 .0 .0 .0 .0 .0 .0 .0 .0 .0 .1) in
-    let h3 : 3 ≤ k = past 2 k h2 (r .0 .0 .0 .0 .0 .0 .0 .0 .0 .0 .0 .0 .0 .0 .0 .0 .0 .0 .0 .0 .0 .0 .0 .1) in
-    let h4 : 4 ≤ k = past 3 k h3 (r .0 .0 .0 .0 .0 .0 .0 .0 .0 .0 .0 .0 .0 .0 .0 .0 .0 .0 .0 .0 .0 .0 .1) in
-    let h5 : 5 ≤ k = past 4 k h4 (r .0 .0 .0 .0 .0 .0 .0 .0 .0 .0 .0 .0 .0 .0 .0 .0 .0 .0 .0 .0 .0 .1) in
-    let h6 : 6 ≤ k = past 5 k h5 (r .0 .0 .0 .0 .0 .0 .0 .0 .0 .0 .0 .0 .0 .0 .0 .0 .0 .0 .0 .0 .1) in
-    let h7 : 7 ≤ k = past 6 k h6 (r .0 .0 .0 .0 .0 .0 .0 .0 .0 .0 .0 .0 .0 .0 .0 .0 .0 .0 .0 .1) in
-    let h8 : 8 ≤ k = past 7 k h7 (r .0 .0 .0 .0 .0 .0 .0 .0 .0 .0 .0 .0 .0 .0 .0 .0 .0 .0 .1) in
-    let h9 : 9 ≤ k = past 8 k h8 (r .0 .0 .0 .0 .0 .0 .0 .0 .0 .0 .0 .0 .0 .0 .0 .0 .0 .1) in
-    let h10 : 10 ≤ k = past 9 k h9 (r .0 .0 .0 .0 .0 .0 .0 .0 .0 .0 .0 .0 .0 .0 .0 .0 .1) in
-    let h11 : 11 ≤ k = past 10 k h10 (r .0 .0 .0 .0 .0 .0 .0 .0 .0 .0 .0 .0 .0 .0 .0 .1) in
-    let h12 : 12 ≤ k = past 11 k h11 (r .0 .0 .0 .0 .0 .0 .0 .0 .0 .0 .0 .0 .0 .0 .1) in
-    let h13 : 13 ≤ k = past 12 k h12 (r .0 .0 .0 .0 .0 .0 .0 .0 .0 .0 .0 .0 .0 .1) in
-    let h14 : 14 ≤ k = past 13 k h13 (r .0 .0 .0 .0 .0 .0 .0 .0 .0 .0 .0 .0 .1) in
-    let h15 : 15 ≤ k = past 14 k h14 (r .0 .0 .0 .0 .0 .0 .0 .0 .0 .0 .0 .1) in
-    let h16 : 16 ≤ k = past 15 k h15 (r .0 .0 .0 .0 .0 .0 .0 .0 .0 .0 .1) in
-    let h17 : 17 ≤ k = past 16 k h16 (r .0 .0 .0 .0 .0 .0 .0 .0 .0 .1) in
-    let h18 : 18 ≤ k = past 17 k h17 (r .0 .0 .0 .0 .0 .0 .0 .0 .1) in
-    let h19 : 19 ≤ k = past 18 k h18 (r .0 .0 .0 .0 .0 .0 .0 .1) in
-    let h20 : 20 ≤ k = past 19 k h19 (r .0 .0 .0 .0 .0 .0 .1) in
-    let h21 : 21 ≤ k = past 20 k h20 (r .0 .0 .0 .0 .0 .1) in
-    let h22 : 22 ≤ k = past 21 k h21 (r .0 .0 .0 .0 .1) in
-    let h23 : 23 ≤ k = past 22 k h22 (r .0 .0 .0 .1) in
-    let h24 : 24 ≤ k = past 23 k h23 (r .0 .0 .1) in
-    let h25 : 25 ≤ k = past 24 k h24 (r .0 .1) in
-    let h26 : 26 ≤ k = past 25 k h25 (r .1) in
-    none-past k h26
+    let h1 : 1 ≤ k = past 0 k h0 (r .0 .0 .0 .0 .0 .0 .0 .0 .0 .0 .0 .0 .0 .0 .0 .0 .0 .0 .0 .0 .0 .0 .0 .0 .0 .0 .1) in
+    let h2 : 2 ≤ k = past 1 k h1 (r .0 .0 .0 .0 .0 .0 .0 .0 .0 .0 .0 .0 .0 .0 .0 .0 .0 .0 .0 .0 .0 .0 .0 .0 .0 .1) in
+    let h3 : 3 ≤ k = past 2 k h2 (r .0 .0 .0 .0 .0 .0 .0 .0 .0 .0 .0 .0 .0 .0 .0 .0 .0 .0 .0 .0 .0 .0 .0 .0 .1) in
+    let h4 : 4 ≤ k = past 3 k h3 (r .0 .0 .0 .0 .0 .0 .0 .0 .0 .0 .0 .0 .0 .0 .0 .0 .0 .0 .0 .0 .0 .0 .0 .1) in
+    let h5 : 5 ≤ k = past 4 k h4 (r .0 .0 .0 .0 .0 .0 .0 .0 .0 .0 .0 .0 .0 .0 .0 .0 .0 .0 .0 .0 .0 .0 .1) in
+    let h6 : 6 ≤ k = past 5 k h5 (r .0 .0 .0 .0 .0 .0 .0 .0 .0 .0 .0 .0 .0 .0 .0 .0 .0 .0 .0 .0 .0 .1) in
+    let h7 : 7 ≤ k = past 6 k h6 (r .0 .0 .0 .0 .0 .0 .0 .0 .0 .0 .0 .0 .0 .0 .0 .0 .0 .0 .0 .0 .1) in
+    let h8 : 8 ≤ k = past 7 k h7 (r .0 .0 .0 .0 .0 .0 .0 .0 .0 .0 .0 .0 .0 .0 .0 .0 .0 .0 .0 .1) in
+    let h9 : 9 ≤ k = past 8 k h8 (r .0 .0 .0 .0 .0 .0 .0 .0 .0 .0 .0 .0 .0 .0 .0 .0 .0 .0 .1) in
+    let h10 : 10 ≤ k = past 9 k h9 (r .0 .0 .0 .0 .0 .0 .0 .0 .0 .0 .0 .0 .0 .0 .0 .0 .0 .1) in
+    let h11 : 11 ≤ k = past 10 k h10 (r .0 .0 .0 .0 .0 .0 .0 .0 .0 .0 .0 .0 .0 .0 .0 .0 .1) in
+    let h12 : 12 ≤ k = past 11 k h11 (r .0 .0 .0 .0 .0 .0 .0 .0 .0 .0 .0 .0 .0 .0 .0 .1) in
+    let h13 : 13 ≤ k = past 12 k h12 (r .0 .0 .0 .0 .0 .0 .0 .0 .0 .0 .0 .0 .0 .0 .1) in
+    let h14 : 14 ≤ k = past 13 k h13 (r .0 .0 .0 .0 .0 .0 .0 .0 .0 .0 .0 .0 .0 .1) in
+    let h15 : 15 ≤ k = past 14 k h14 (r .0 .0 .0 .0 .0 .0 .0 .0 .0 .0 .0 .0 .1) in
+    let h16 : 16 ≤ k = past 15 k h15 (r .0 .0 .0 .0 .0 .0 .0 .0 .0 .0 .0 .1) in
+    let h17 : 17 ≤ k = past 16 k h16 (r .0 .0 .0 .0 .0 .0 .0 .0 .0 .0 .1) in
+    let h18 : 18 ≤ k = past 17 k h17 (r .0 .0 .0 .0 .0 .0 .0 .0 .0 .1) in
+    let h19 : 19 ≤ k = past 18 k h18 (r .0 .0 .0 .0 .0 .0 .0 .0 .1) in
+    let h20 : 20 ≤ k = past 19 k h19 (r .0 .0 .0 .0 .0 .0 .0 .1) in
+    let h21 : 21 ≤ k = past 20 k h20 (r .0 .0 .0 .0 .0 .0 .1) in
+    let h22 : 22 ≤ k = past 21 k h21 (r .0 .0 .0 .0 .0 .1) in
+    let h23 : 23 ≤ k = past 22 k h22 (r .0 .0 .0 .0 .1) in
+    let h24 : 24 ≤ k = past 23 k h23 (r .0 .0 .0 .1) in
+    let h25 : 25 ≤ k = past 24 k h24 (r .0 .0 .1) in
+    let h26 : 26 ≤ k = past 25 k h25 (r .0 .1) in
+    let h27 : 27 ≤ k = past 26 k h26 (r .1) in
+    none-past k h27
 
 pub code-word-spec : {M : Type 1} → statement M
 code-word-spec =
@@ -156,4 +160,5 @@ code-word-spec =
     returns-24
     returns-25
     returns-26
-    returns-27)
+    returns-27
+    returns-28)

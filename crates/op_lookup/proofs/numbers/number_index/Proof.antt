@@ -13,10 +13,10 @@ use Rattle.op_lookup.proofs.numbers.number_index.Statement.{statement}
 use Rattle.op_lookup.proofs.numbers.number_index.Tie as tie
 
 abbrev Inv-loop : tie.InvT-loop
-Inv-loop table index₀ k₀ index k = (k ≤ 89) × IndexTo k index
+Inv-loop table index₀ k₀ index k = (k ≤ 106) × IndexTo k index
 
 abbrev μ-loop : tie.MeasureT-loop
-μ-loop table index₀ k₀ index k = 89 - k
+μ-loop table index₀ k₀ index k = 106 - k
 
 loop-holds : tie.Need-loop-holds Inv-loop μ-loop
 loop-holds c = (omega arith, index-begun)
@@ -54,7 +54,7 @@ loop-again c =
 
 returns : tie.Need-returns Inv-loop μ-loop
 returns c =
-    let z : c .before .loop .k ≡ 89 = omega arith in
+    let z : c .before .loop .k ≡ 106 = omega arith in
     index-whole (c .before .loop .index) (rw (← z) (c .before .loop .inv .1))
 
 pub number-index-spec : {M : Type 1} → statement M

@@ -27,22 +27,22 @@ bit-requires c κs = search needs
 bit-requires-2 : tie.Need-bit-requires-2
 bit-requires-2 c κs = search needs
 
-shared-slice-read-file-length : tie.Need-shared-slice-read-file-length
-shared-slice-read-file-length c = omega (arith, sizes _ (c .before .before .before .before .before .before .before .pre .0))
+shared-slice-read-written-length : tie.Need-shared-slice-read-written-length
+shared-slice-read-written-length c = omega (arith, sizes _ (c .before .before .before .before .before .before .before .pre .0))
 
-file-length-requires : tie.Need-file-length-requires
-file-length-requires c κs = search needs
+written-length-requires : tie.Need-written-length-requires
+written-length-requires c κs = search needs
 
-cast-t16 : tie.Need-cast-t16
-cast-t16 c =
+cast-t19 : tie.Need-cast-t16
+cast-t19 c =
     let full : length (c .before .before .before .before .before .before .before .before .args .state .links) ≡ 256 = search needs in
-    omega (arith, c .file-length .ensures, measured (c .before .before .before .before .before .before .before .before .args .table .now) (c .before .before .before .before .before .before .before .before .args .memory .now) (c .before .before .before .before .before .before .before .before .args .state) full (c .before .before .before .before .before .before .before .before .pre .1), sizes _ (c .before .before .before .before .before .before .before .before .pre .0))
+    omega (arith, c .written-length .ensures, measured (c .before .before .before .before .before .before .before .before .args .table .now) (c .before .before .before .before .before .before .before .before .args .memory .now) (c .before .before .before .before .before .before .before .before .args .state) full (c .before .before .before .before .before .before .before .before .pre .1), sizes _ (c .before .before .before .before .before .before .before .before .pre .0))
 
 returns : tie.Need-returns
 unfolding size freshCount
 returns c =
     let full : length (c .before .before .before .before .before .before .before .before .args .state .links) ≡ 256 = search needs in
-    rw (measured (c .before .before .before .before .before .before .before .before .args .table .now) (c .before .before .before .before .before .before .before .before .args .memory .now) (c .before .before .before .before .before .before .before .before .args .state) full (c .before .before .before .before .before .before .before .before .pre .1) .links, c .before .before .before .bit .ensures, c .before .before .bit2 .ensures, c .file-length .ensures)
+    rw (measured (c .before .before .before .before .before .before .before .before .args .table .now) (c .before .before .before .before .before .before .before .before .args .memory .now) (c .before .before .before .before .before .before .before .before .args .state) full (c .before .before .before .before .before .before .before .before .pre .1) .links, c .before .before .before .bit .ensures, c .before .before .bit2 .ensures, c .written-length .ensures)
 
 pub trailer-words-spec : {M : Type 1} → statement M
 trailer-words-spec =
@@ -53,7 +53,7 @@ trailer-words-spec =
     shared-slice-read-t10
     bit-requires
     bit-requires-2
-    shared-slice-read-file-length
-    file-length-requires
-    cast-t16
+    shared-slice-read-written-length
+    written-length-requires
+    cast-t19
     returns)

@@ -22,18 +22,18 @@ state-ok-requires c κs = search needs
 returns : tie.Need-returns
 returns c = unwritten-state (c .before .before .before .before .before .args .table .now) (stateOf (c .before .before .before .before .before .args .state) (c .before .before .before .before .before .args .memory .now)) _ _ (test-true _ (c .before .before .before .before .before .pre)) (sym (c .before .state-ok .ensures (c .before .before .before .before .before .args .memory .now) refl) ∙ not-true _ (c .if1 .taken))
 
-cast-file-length : tie.Need-cast-file-length
-cast-file-length c =
+cast-written-length : tie.Need-cast-written-length
+cast-written-length c =
     let full : length (c .before .before .before .before .before .args .state .links) ≡ 256 = search needs in
     let fine : stateOk (c .before .before .before .before .before .args .table .now) (stateOf (c .before .before .before .before .before .args .state) (c .before .before .before .before .before .args .memory .now)) ≡ true = sym (c .before .state-ok .ensures (c .before .before .before .before .before .args .memory .now) refl) ∙ not-false _ (c .if1 .left) in
     let d = measured (c .before .before .before .before .before .args .table .now) (c .before .before .before .before .before .args .memory .now) (c .before .before .before .before .before .args .state) full (true-ok _ fine) in
     omega arith
 
-shared-slice-read-file-length : tie.Need-shared-slice-read-file-length
-shared-slice-read-file-length c = omega (arith, sizes _ (c .before .before .before .before .before .before .pre))
+shared-slice-read-written-length : tie.Need-shared-slice-read-written-length
+shared-slice-read-written-length c = omega (arith, sizes _ (c .before .before .before .before .before .before .pre))
 
-file-length-requires : tie.Need-file-length-requires
-file-length-requires c κs = search needs
+written-length-requires : tie.Need-written-length-requires
+written-length-requires c κs = search needs
 
 returns-2 : tie.Need-returns-2
 unfolding freshCount
@@ -41,7 +41,7 @@ returns-2 c =
     let full : length (c .before .before .before .before .before .before .before .before .args .state .links) ≡ 256 = search needs in
     let fine : stateOk (c .before .before .before .before .before .before .before .before .args .table .now) (stateOf (c .before .before .before .before .before .before .before .before .args .state) (c .before .before .before .before .before .before .before .before .args .memory .now)) ≡ true = sym (c .before .before .before .before .state-ok .ensures (c .before .before .before .before .before .before .before .before .args .memory .now) refl) ∙ not-false _ (c .before .before .before .if1 .left) in
     let d = measured (c .before .before .before .before .before .before .before .before .args .table .now) (c .before .before .before .before .before .before .before .before .args .memory .now) (c .before .before .before .before .before .before .before .before .args .state) full (true-ok _ fine) in
-    unwritten-room (c .before .before .before .before .before .before .before .before .args .table .now) (stateOf (c .before .before .before .before .before .before .before .before .args .state) (c .before .before .before .before .before .before .before .before .args .memory .now)) _ _ (test-true _ (c .before .before .before .before .before .before .before .before .pre)) fine (rw (d .links) (rw (c .before .file-length .ensures) at (c .if2 .taken)))
+    unwritten-room (c .before .before .before .before .before .before .before .before .args .table .now) (stateOf (c .before .before .before .before .before .before .before .before .args .state) (c .before .before .before .before .before .before .before .before .args .memory .now)) _ _ (test-true _ (c .before .before .before .before .before .before .before .before .pre)) fine (rw (d .links) (rw (c .before .written-length .ensures) at (c .if2 .taken)))
 
 write-file-requires : tie.Need-write-file-requires
 unfolding freshCount
@@ -49,7 +49,7 @@ write-file-requires c κs =
     let full : length (c .before .before .before .before .before .before .before .before .before .args .state .links) ≡ 256 = search needs in
     let fine : stateOk (c .before .before .before .before .before .before .before .before .before .args .table .now) (stateOf (c .before .before .before .before .before .before .before .before .before .args .state) (c .before .before .before .before .before .before .before .before .before .args .memory .now)) ≡ true = sym (c .before .before .before .before .before .state-ok .ensures (c .before .before .before .before .before .before .before .before .before .args .memory .now) refl) ∙ not-false _ (c .before .before .before .before .if1 .left) in
     let d = measured (c .before .before .before .before .before .before .before .before .before .args .table .now) (c .before .before .before .before .before .before .before .before .before .args .memory .now) (c .before .before .before .before .before .before .before .before .before .args .state) full (true-ok _ fine) in
-    (c .before .before .before .before .before .before .before .before .before .pre, true-ok _ fine, rw (c .before .before .file-length .ensures) at (c .before .if2 .left))
+    (c .before .before .before .before .before .before .before .before .before .pre, true-ok _ fine, rw (c .before .before .written-length .ensures) at (c .before .if2 .left))
 
 same-length : tie.Need-same-length
 same-length c = search needs
@@ -60,7 +60,7 @@ returns-3 c =
     let full : length (c .before .before .before .before .before .before .before .before .before .before .before .before .args .state .links) ≡ 256 = search needs in
     let fine : stateOk (c .before .before .before .before .before .before .before .before .before .before .before .before .args .table .now) (stateOf (c .before .before .before .before .before .before .before .before .before .before .before .before .args .state) (c .before .before .before .before .before .before .before .before .before .before .before .before .args .memory .now)) ≡ true = sym (c .before .before .before .before .before .before .before .before .state-ok .ensures (c .before .before .before .before .before .before .before .before .before .before .before .before .args .memory .now) refl) ∙ not-false _ (c .before .before .before .before .before .before .before .if1 .left) in
     let d = measured (c .before .before .before .before .before .before .before .before .before .before .before .before .args .table .now) (c .before .before .before .before .before .before .before .before .before .before .before .before .args .memory .now) (c .before .before .before .before .before .before .before .before .before .before .before .before .args .state) full (true-ok _ fine) in
-    written-file (c .before .before .before .before .before .before .before .before .before .before .before .before .args .table .now) (stateOf (c .before .before .before .before .before .before .before .before .before .before .before .before .args .state) (c .before .before .before .before .before .before .before .before .before .before .before .before .args .memory .now)) _ _ (test-true _ (c .before .before .before .before .before .before .before .before .before .before .before .before .pre)) fine _ _ (rw (d .links) (rw (c .before .before .before .before .before .file-length .ensures) at (c .before .before .before .before .if2 .left))) (rw (d .links) (c .before .before .before .before .before .file-length .ensures)) (c .before .before .write-file .ensures)
+    written-file (c .before .before .before .before .before .before .before .before .before .before .before .before .args .table .now) (stateOf (c .before .before .before .before .before .before .before .before .before .before .before .before .args .state) (c .before .before .before .before .before .before .before .before .before .before .before .before .args .memory .now)) _ _ (test-true _ (c .before .before .before .before .before .before .before .before .before .before .before .before .pre)) fine _ _ (rw (d .links) (rw (c .before .before .before .before .before .written-length .ensures) at (c .before .before .before .before .if2 .left))) (rw (d .links) (c .before .before .before .before .before .written-length .ensures)) (c .before .before .write-file .ensures)
 
 pub write-checked-spec : {M : Type 1} → statement M
 write-checked-spec =
@@ -68,9 +68,9 @@ write-checked-spec =
     (tie.spec
     state-ok-requires
     returns
-    cast-file-length
-    shared-slice-read-file-length
-    file-length-requires
+    cast-written-length
+    shared-slice-read-written-length
+    written-length-requires
     returns-2
     write-file-requires
     same-length

@@ -39,6 +39,15 @@ array-write-w-10 c = search needs
 array-write-w-11 : tie.Need-array-write-w-11
 array-write-w-11 c = search needs
 
+array-write-w-12 : tie.Need-array-write-w-12
+array-write-w-12 c = search needs
+
+array-write-w-13 : tie.Need-array-write-w-13
+array-write-w-13 c = search needs
+
+array-write-w-14 : tie.Need-array-write-w-14
+array-write-w-14 c = search needs
+
 returns : tie.Need-returns
 unfolding calledWords
 returns c = refl
@@ -58,4 +67,7 @@ called-words-spec =
     array-write-w-9
     array-write-w-10
     array-write-w-11
+    array-write-w-12
+    array-write-w-13
+    array-write-w-14
     returns)

@@ -1,4 +1,4 @@
--- `vectors::snapshots::answers` is safe and ends: each round is one of 420.
+-- `vectors::snapshots::answers` is safe and ends: each round is one of 531.
 -- Assumes nothing.
 use Prim.Native.Nat.{_-_, _≤_}
 use native.Mathlib.Omega.{arith}
@@ -7,10 +7,10 @@ use Rattle.vectors.proofs.snapshots.answers.Statement.{statement}
 use Rattle.vectors.proofs.snapshots.answers.Tie as tie
 
 abbrev Inv-loop : tie.InvT-loop
-Inv-loop tally₀ table memory state room n k j₀ tally j = j ≤ 420
+Inv-loop tally₀ table memory state room n k j₀ tally j = j ≤ 531
 
 abbrev μ-loop : tie.MeasureT-loop
-μ-loop tally₀ table memory state room n k j₀ tally j = 420 - j
+μ-loop tally₀ table memory state room n k j₀ tally j = 531 - j
 
 loop-holds : tie.Need-loop-holds Inv-loop μ-loop
 loop-holds c = omega arith

@@ -1,0 +1,5 @@
+pub mod Laws
+pub mod Wholes
+pub mod Held
+pub mod Decimals
+pub mod Vectors
