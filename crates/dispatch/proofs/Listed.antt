@@ -79,22 +79,31 @@ unfolding member
 none-of k [] h a = failed a
 none-of k (n ∷ ns) h a = ⊎-elim (λ e. h .1 (ok-eq k n e)) (λ e. none-of k ns (h .0) e) (or-cases _ _ a)
 
--- The real operations, which go by a function of their own.
+-- The real operations that go by a function of their own.
 
 abbrev pub isReal : ℕ → Bool
-isReal n = leb 501 n and leb n 515 or leb 805 n and leb n 806
+isReal n = leb 503 n and leb n 506 or leb 509 n and leb n 515 or leb 805 n and leb n 806
 
 pub below-reals : (n : ℕ) → n < 501 → isReal n ≡ false
 unfolding _and_ _or_
-below-reals n h = rw (lt-leb 501 n h, lt-leb 805 n (omega arith)) refl
+below-reals n h = rw (lt-leb 503 n (omega arith), lt-leb 509 n (omega arith), lt-leb 805 n (omega arith)) refl
 
 pub between-reals : (n : ℕ) → 515 < n → n < 805 → isReal n ≡ false
 unfolding _and_ _or_
-between-reals n h g = rw (le-leb 501 n (omega arith), lt-leb n 515 h, lt-leb 805 n g) refl
+between-reals n h g =
+    rw (le-leb 503 n (omega arith), lt-leb n 506 (omega arith), le-leb 509 n (omega arith), lt-leb n 515 h, lt-leb 805 n g) refl
 
 pub above-reals : (n : ℕ) → 806 < n → isReal n ≡ false
 unfolding _and_ _or_
-above-reals n h = rw (le-leb 501 n (omega arith), lt-leb n 515 (omega arith), le-leb 805 n (omega arith), lt-leb n 806 h) refl
+above-reals n h =
+    rw (
+      le-leb 503 n (omega arith),
+      lt-leb n 506 (omega arith),
+      le-leb 509 n (omega arith),
+      lt-leb n 515 (omega arith),
+      le-leb 805 n (omega arith),
+      lt-leb n 806 h,
+    ) refl
 
 -- the numbers that are no real operation's
 abbrev pub others : List ℕ → List ℕ
@@ -114,14 +123,30 @@ member-others k (n ∷ ns) e h =
     there : k ≡ n → Ok (member k (cond (isReal n) (others ns) (n ∷ others ns)))
     there q = rw (← q, e) (or-l _ _ (eq-ok k k refl))
 
--- the number of a real operation of section 5, and of section 8
-pub real-listed : (n : ℕ) → 501 ≤ n → n ≤ 515 → Ok (member n realNumbers)
+-- the number of a sum, difference, product or quotient
+pub computes-listed : (n : ℕ) → 501 ≤ n → (n ≡ 501 → ⊥) → (n ≡ 502 → ⊥) → n < 507 → Ok (member n realNumbers)
 unfolding member _or_
-real-listed n h g =
-    let e : 501 + (n - 501) ≡ n = omega arith in
-    subst (λ (k : ℕ). Ok (member k realNumbers)) e (go (n - 501) (omega arith))
+computes-listed n a p q g =
+    let h : 503 ≤ n = omega arith in
+    let e : 503 + (n - 503) ≡ n = omega (arith, h) in
+    subst (λ (k : ℕ). Ok (member k realNumbers)) e (go (n - 503) (omega (arith, h, g)))
   where
-    go : (i : ℕ) → i ≤ 14 → Ok (member (501 + i) realNumbers)
+    go : (i : ℕ) → i ≤ 3 → Ok (member (503 + i) realNumbers)
+    go zero l = passed
+    go (suc zero) l = passed
+    go (suc (suc zero)) l = passed
+    go (suc (suc (suc zero))) l = passed
+    go (suc (suc (suc (suc i)))) l = absurd (omega arith)
+
+-- of a negation or a test
+pub tests-listed : (n : ℕ) → 507 ≤ n → (n ≡ 507 → ⊥) → (n ≡ 508 → ⊥) → n < 516 → Ok (member n realNumbers)
+unfolding member _or_
+tests-listed n a p q g =
+    let h : 509 ≤ n = omega arith in
+    let e : 509 + (n - 509) ≡ n = omega (arith, h) in
+    subst (λ (k : ℕ). Ok (member k realNumbers)) e (go (n - 509) (omega (arith, h, g)))
+  where
+    go : (i : ℕ) → i ≤ 6 → Ok (member (509 + i) realNumbers)
     go zero l = passed
     go (suc zero) l = passed
     go (suc (suc zero)) l = passed
@@ -129,22 +154,15 @@ real-listed n h g =
     go (suc (suc (suc (suc zero)))) l = passed
     go (suc (suc (suc (suc (suc zero))))) l = passed
     go (suc (suc (suc (suc (suc (suc zero)))))) l = passed
-    go (suc (suc (suc (suc (suc (suc (suc zero))))))) l = passed
-    go (suc (suc (suc (suc (suc (suc (suc (suc zero)))))))) l = passed
-    go (suc (suc (suc (suc (suc (suc (suc (suc (suc zero))))))))) l = passed
-    go (suc (suc (suc (suc (suc (suc (suc (suc (suc (suc zero)))))))))) l = passed
-    go (suc (suc (suc (suc (suc (suc (suc (suc (suc (suc (suc zero))))))))))) l = passed
-    go (suc (suc (suc (suc (suc (suc (suc (suc (suc (suc (suc (suc zero)))))))))))) l = passed
-    go (suc (suc (suc (suc (suc (suc (suc (suc (suc (suc (suc (suc (suc zero))))))))))))) l = passed
-    go (suc (suc (suc (suc (suc (suc (suc (suc (suc (suc (suc (suc (suc (suc zero)))))))))))))) l = passed
-    go (suc (suc (suc (suc (suc (suc (suc (suc (suc (suc (suc (suc (suc (suc (suc i))))))))))))))) l = absurd (omega arith)
+    go (suc (suc (suc (suc (suc (suc (suc i))))))) l = absurd (omega arith)
 
+-- of a conversion
 pub converts-listed : (n : ℕ) → 801 ≤ n → (n ≡ 801 → ⊥) → (n ≡ 802 → ⊥) → (n ≡ 803 → ⊥) → (n ≡ 804 → ⊥) → n < 807 → Ok (member n realNumbers)
 unfolding member _or_
 converts-listed n a p q r s g =
     let h : 805 ≤ n = omega arith in
-    let e : 805 + (n - 805) ≡ n = omega arith in
-    subst (λ (k : ℕ). Ok (member k realNumbers)) e (go (n - 805) (omega arith))
+    let e : 805 + (n - 805) ≡ n = omega (arith, h) in
+    subst (λ (k : ℕ). Ok (member k realNumbers)) e (go (n - 805) (omega (arith, h, g)))
   where
     go : (i : ℕ) → i ≤ 1 → Ok (member (805 + i) realNumbers)
     go zero l = passed

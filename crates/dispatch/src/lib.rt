@@ -1,6 +1,6 @@
 // One step: the operation that stands at the entry b, by its number, 100 × section + item of [M section 8].
-// One flat match, and each operation called from here alone: so the compiler makes one jump table and folds every operation into the loop. The reals go by a
-// function of their own, which is called from two arms and so stays one.
+// One flat match, and each operation called from here alone: so the compiler makes one jump table and folds every operation into the loop. Of the
+// reals only loads, stores and the tests of the flag are; the others go by a function of their own, which is called from three arms and so stays one.
 ghost use mathlib.Core.Path.{_≡_};
 ghost use lib.ListN.{length};
 ghost use Rattle.exec_core.specs.Seen.{seen, openLinks, stepSeen, Running};
@@ -88,6 +88,10 @@ use exec_moves::mov;
 use exec_moves::ssl;
 use exec_moves::sub;
 use exec_moves::zer;
+use exec_reals::ldr;
+use exec_reals::rno;
+use exec_reals::rov;
+use exec_reals::str;
 use ops::constants::Machine;
 use real_steps::real_step;
 
@@ -157,7 +161,12 @@ pub fn dispatch(
         414 => ile(t, b, z),
         415 => ilt(t, b, z),
         416 => ine(t, b, z),
-        501..=515 => real_step(t, b, m, z, links, c),
+        501 => ldr(t, b, m, z),
+        502 => str(t, b, m, z, c),
+        503..=506 => real_step(t, b, m, z, links, c),
+        507 => rov(t, b, z),
+        508 => rno(t, b, z),
+        509..=515 => real_step(t, b, m, z, links, c),
         601 => plc(t, b, m, z),
         602 => psc(t, b, m, z),
         603 => lch(t, b, m, z),

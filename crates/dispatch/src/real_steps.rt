@@ -1,4 +1,4 @@
-// One step of a real operation, by its number. Its arms are long and seldom taken: folded into the loop of all operations they slow down the others.
+// One step of a real operation that computes, tests or converts, by its number. Its arms are long: folded into the loop of all operations they slow down the others.
 ghost use mathlib.Core.Path.{_≡_};
 ghost use Rattle.base.specs.Test.{Ok};
 ghost use Rattle.base.specs.Lists.{_at_, member};
@@ -8,7 +8,6 @@ use exec_core::Answer;
 use exec_reals::adr;
 use exec_reals::dvr;
 use exec_reals::itr;
-use exec_reals::ldr;
 use exec_reals::mlr;
 use exec_reals::ngr;
 use exec_reals::req;
@@ -17,11 +16,8 @@ use exec_reals::rgt;
 use exec_reals::rle;
 use exec_reals::rlt;
 use exec_reals::rne;
-use exec_reals::rno;
-use exec_reals::rov;
 use exec_reals::rti;
 use exec_reals::sbr;
-use exec_reals::str;
 
 // The links are lent to be read: no real operation changes them.
 pub fn real_step(
@@ -36,14 +32,10 @@ pub fn real_step(
     ensures { λ r. ⌜ seen r (now (z .exit)) (now (m .exit)) (openLinks (now (links .entry))) ≡ stepSeen (now (t .entry)) b (now (z .entry)) (now (m .entry)) (openLinks (now (links .entry))) ⌝ }
 {
     match t[b] {
-        501 => ldr(t, b, m, z),
-        502 => str(t, b, m, z, c),
         503 => adr(t, b, m, z),
         504 => sbr(t, b, m, z),
         505 => mlr(t, b, m, z),
         506 => dvr(t, b, m, z),
-        507 => rov(t, b, z),
-        508 => rno(t, b, z),
         509 => ngr(t, b, z),
         510 => req(t, b, z),
         511 => rge(t, b, z),

@@ -1,28 +1,25 @@
 -- DRC: one division is the decimal number rounded once, and finite.
 -- Assumes nothing.
-use Prim.Native.Nat.{ℕ, zero, suc, _+_, _*_, _-_, _/_, _%_, _^_, _<_, _≤_}
+use Prim.Native.Nat.{ℕ, zero, suc, _+_, _*_, _^_, _<_, _≤_}
 use mathlib.Core.Path.{_≡_, refl, sym, ap, subst, _∙_}
-use mathlib.Core.Bool.{Bool, true, false, not, cond}
-use mathlib.Core.List.{List, [], _∷_, _++_}
-use native.Mathlib.Nat.{mul-pos, mul-comm, mul-assoc, mul-left-comm, mul-right-comm, mul-one, add-mul, add-assoc, zero-add, pow-suc, mul-le-mul-right, le-trans, le-of-eq, lt-of-lt-of-le, zero-lt-suc}
+use mathlib.Core.Bool.{Bool, true, false, not}
+use native.Mathlib.Nat.{mul-pos, mul-comm, mul-assoc, mul-left-comm, mul-one, le-trans, zero-lt-suc}
 use native.Mathlib.Omega.{arith}
-use lib.Dec.{T, eqb, leb, ltb, eqb→eq, lit≤, lit<}
-use lib.IntN.{ℤ, pos, negsuc}
-use lib.ListN.{length}
-use lib.Ieee.{Float, nan, inf, fin, Format, binary64, prec, emax, low, up, down, unlike, odd, units, round, div, ofInt, neg, isNan, lt, eq, le, fits}
-use lib.Ieee.Fits.{round-is, up-pos, down-pos, neg-fits, div-fits}
+use lib.Dec.{T, eqb, ltb, eqb→eq, lit≤, lit<}
+use lib.IntN.{pos}
+use lib.Ieee.{Float, nan, inf, fin, binary64, prec, emax, low, up, down, unlike, odd, units, round, div, ofInt, neg, isNan, lt, eq, le, fits}
+use lib.Ieee.Fits.{round-is, down-pos, neg-fits, div-fits}
 use lib.Ieee.Exact.{HasValue}
 use lib.Ieee.Back.{round-whole}
 use lib.Ieee.Scale.{round-same}
 use lib.Ieee.Order.{round-mono}
-use borrow.Author.Tests.{leb-true, eq-eqb, ne-eqb}
+use borrow.Author.Tests.{eq-eqb, ne-eqb}
 use Rattle.base.proofs.Bool.{by-if}
 use Rattle.base.specs.Test.{_and_, if}
-use Rattle.real_rules.specs.Real.{answer, value, overflow}
-use Rattle.real_rules.specs.Real.{quotient, constant}
+use Rattle.real_rules.specs.Real.{answer, value, overflow, quotient, constant}
 use Rattle.real_rules.proofs.Laws.{by-cond}
 
--- ---- one division of exact numbers is one rounding of the fraction
+-- One division of exact numbers is one rounding of the fraction.
 cross : (x y n p de dd : ℕ) → x ≡ n * de → y ≡ p * dd → x * dd * p ≡ n * (y * de)
 cross x y n p de dd e h = rw (e, h) (simp (mul-assoc, mul-comm, mul-left-comm))
 
@@ -55,7 +52,7 @@ pub quotient-round : (n k : ℕ) → n ≤ 2 ^ 53 → 10 ^ k ≤ 2 ^ 53 → 0 < 
 unfolding quotient ofInt
 quotient-round n k h j p = div-values (round binary64 false n 1) (round binary64 false (10 ^ k) 1) n (10 ^ k) p (round-whole binary64 false n h) (round-whole binary64 false (10 ^ k) j)
 
--- ---- it is finite: not above 2^53
+-- It is finite: not above 2^53.
 abbrev NoLess : Float → Type 0
 NoLess nan = ⊥
 NoLess (inf s) = s ≡ false

@@ -1,23 +1,21 @@
 -- RA stays finite, its two words are those of its value, and a pair loaded is the pair stored: for the state check and for demand 3.
 -- Assumes nothing.
-use Prim.Native.Nat.{ℕ, zero, suc, _+_, _*_, _/_, _%_, _^_, _<_, _≤_}
+use Prim.Native.Nat.{ℕ, zero, suc, _+_, _/_, _%_, _^_, _<_, _≤_}
 use mathlib.Core.Path.{_≡_, refl, sym, ap, subst, _∙_}
 use mathlib.Core.Bool.{Bool, true, false, not}
 use mathlib.Core.List.{List, [], _∷_}
 use native.Mathlib.Omega.{arith}
-use lib.Dec.{T, ltb}
-use lib.IntN.{ℤ, pos}
-use lib.ListN.{length, set}
+use lib.Dec.{T}
+use lib.IntN.{ℤ}
+use lib.ListN.{set}
 use lib.Seq.{getD-set-other}
-use lib.Ieee.{Float, nan, inf, fin, binary64, add, sub, mul, div, neg, ofInt, ofBits, toBits, fits, isNan}
+use lib.Ieee.{Float, nan, inf, fin, binary64, add, sub, mul, div, neg, ofBits, toBits, fits, isNan}
 use lib.Ieee.Fits.{add-fits, sub-fits, mul-fits, div-fits, neg-fits, ofInt-fits}
 use lib.Ieee.Bits.{ofBits-toBits, toBits-ofBits, toBits-lt, ofBits-fits}
 use Rattle.base.specs.Lists.{_at_}
 use Rattle.words.specs.Words.{signed}
-use Rattle.real_rules.specs.Real.{Real, value, overflow, answer, pair, lowWord, highWord, realOf, finiteHigh, both, negated, ofWord, Whole, within, beyond, wholeOf, raOf, settled}
-use Rattle.base.specs.Test.{if}
-use Rattle.base.proofs.Bool.{by-if}
-use Rattle.ops.specs.Machine.{cfpB, IA, RA, RAHIGH, RFLAG}
+use Rattle.real_rules.specs.Real.{Real, value, overflow, answer, pair, lowWord, highWord, realOf, finiteHigh, both, negated, ofWord, settled}
+use Rattle.ops.specs.Machine.{RA, RAHIGH, RFLAG}
 use Rattle.real_rules.proofs.Laws.{pair-beyond, of-word-finite}
 
 -- a value that the format holds and that is finite, or overflow

@@ -1,12 +1,12 @@
 -- Laws of real answers: by comparison with the infinities, and by the bits of a word pair.
 -- Assumes nothing.
 use Prim.Native.Nat.{ℕ, zero, suc, _+_, _*_, _/_, _%_, _^_, _-_, _<_, _≤_}
-use mathlib.Core.Path.{_≡_, refl, sym, ap, subst, _∙_}
+use mathlib.Core.Path.{_≡_, refl, sym, subst}
 use mathlib.Core.Bool.{Bool, true, false, not, cond}
 use native.Mathlib.Omega.{arith}
-use lib.Dec.{T, ltb, eqb, ltb→lt, nltb→le, eqb→eq, lt→ltb, le→leb, not-T, T-not}
-use lib.IntN.{ℤ, pos, negsuc}
-use lib.Ieee.{Float, nan, inf, fin, Format, binary64, prec, low, hid, ones, top, lt, eq, isNan, nanBits, odd, ofFields, ofBits, toBits, fits, inFloat, neg, ofInt, round}
+use lib.Dec.{T, eqb, ltb→lt, nltb→le, eqb→eq, lt→ltb, le→leb}
+use lib.IntN.{ℤ}
+use lib.Ieee.{Float, nan, inf, fin, binary64, lt, eq, isNan, nanBits, odd, ofFields, ofBits, toBits, fits, inFloat, neg, ofInt, round}
 use lib.Arith.{le→nltb}
 use lib.Ieee.Bits.{nanBits-above, toBits-lt}
 use lib.Ieee.Exact.{HasValue}

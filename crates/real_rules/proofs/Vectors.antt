@@ -1,17 +1,13 @@
 -- Reference values of real arithmetic, by their bits; antt computes each.
 -- Assumes nothing.
-use Prim.Native.Nat.{ℕ, _+_, _*_, _^_, _%_, _/_}
+use Prim.Native.Nat.{ℕ, _^_, _%_, _/_}
 use mathlib.Core.Path.{_≡_, refl}
-use mathlib.Core.Bool.{Bool, true, false}
-use mathlib.Core.List.{List, [], _∷_, map}
-use lib.IntN.{ℤ, pos, negsuc}
-use lib.Ieee.{Float, fin, binary64, add, sub, mul, div, neg, lt, eq, ofInt, ofBits, toBits, ofFields, round}
-use Rattle.base.specs.Test.{if}
+use mathlib.Core.Bool.{true, false}
+use mathlib.Core.List.{[], _∷_, map}
+use lib.Ieee.{binary64, add, sub, mul, div, neg, lt, eq, ofInt, ofBits, toBits}
+use Rattle.base.specs.Test.{_and_, if}
 use Rattle.words.specs.Words.{signed, fits}
-use Prim.Native.Nat.{_-_}
-use Prim.Native.String.{String}
-use Rattle.base.specs.Test.{_and_}
-use Rattle.real_rules.specs.Real.{quotient, constant, Real, value, overflow, answer, both, negated, tests, zeroReal, Whole, within, beyond, wholeOf, ofWord, realOf}
+use Rattle.real_rules.specs.Real.{quotient, constant, Real, value, overflow, both, negated, tests, zeroReal, Whole, within, beyond, wholeOf, ofWord, realOf}
 
 -- a pattern as a real, a real as its pattern, or 1 where it is overflow, which no sum, difference, product or quotient below gives as a value
 abbrev x : ℕ → Real

@@ -2,12 +2,12 @@
 -- Assumes nothing.
 use Prim.Native.Nat.{ℕ, zero, suc, _+_, _*_, _/_, _%_, _^_, _-_, _<_, _≤_}
 use mathlib.Core.Path.{_≡_, refl, sym, ap, subst, _∙_}
-use mathlib.Core.Bool.{Bool, true, false, not, cond}
+use mathlib.Core.Bool.{Bool, true, false}
 use native.Mathlib.Nat.{div-one, zero-lt-suc, div-eq-of-lt, mul-div-mul-right, le-div-iff-mul-le, mul-le-mul}
 use native.Mathlib.Omega.{arith}
 use borrow.Author.Tests.{lt-ltb, le-ltb, ltb-true, ltb-false, le-leb, lt-leb, leb-true, leb-false}
-use lib.Dec.{T, leb, ltb, eqb, eqb→eq}
-use lib.IntN.{ℤ, pos, negsuc, negℤ}
+use lib.Dec.{leb, ltb, eqb, eqb→eq}
+use lib.IntN.{ℤ, pos, negℤ}
 use lib.Pow.{pow-pos, pow-add, pow-mono, shl-lt}
 use lib.Ieee.{Float, nan, inf, fin, binary64, up, down, odd, ofFields, ofBits, ofInt, round}
 use lib.Ieee.Fits.{down-pos}
@@ -17,7 +17,7 @@ use lib.Ieee.Back.{round-whole}
 use Rattle.base.specs.Test.{if}
 use Rattle.words.specs.Words.{low, fits, signed}
 use Rattle.integers.proofs.Whole.{by-signed, fits-signed, low-signed}
-use Rattle.real_rules.specs.Real.{Real, value, overflow, answer, pair, realOf, withSign, cut, Whole, within, beyond, ranged, wholeOf, ofWord}
+use Rattle.real_rules.specs.Real.{answer, pair, realOf, withSign, cut, within, beyond, ranged, wholeOf, ofWord}
 use Rattle.real_rules.proofs.Laws.{by-cond, answer-odd, fields-beyond}
 
 cut-value : (x : Float) (s : Bool) (a c : ℕ) → 0 < c → HasValue x s a c → cut x ≡ withSign s (a / c)

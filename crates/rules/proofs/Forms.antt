@@ -5,8 +5,6 @@ use mathlib.Core.Path.{_≡_, refl, sym, _∙_}
 use mathlib.Core.List.{List, [], _∷_, _++_}
 use native.Mathlib.Omega.{arith}
 use borrow.Author.Tests.{eqb-true, eqb-false}
-use lib.Dec.{eqb}
-use lib.ListN.{length}
 use Rattle.base.specs.Test.{if}
 use Rattle.base.specs.Lists.{_at_}
 use Rattle.base.proofs.Bool.{by-if}

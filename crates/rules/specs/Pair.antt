@@ -1,12 +1,10 @@
--- The data part of the real operations: word pairs as operands, and one clause for each operation in the paper's order.
--- (In the project these clauses stand with the others: pairs in rules/specs/Operand, the operations in rules/specs/Exec.)
+-- Two words of memory as the operand of a real operation [02 Wish 5].
 -- Taken where the papers are open: both words of a pair lie in memory, else 22, before 23; the first word is aligned to 4; a pair is
 -- written where its first word is no constant.
 -- Assumes nothing.
 use Prim.Native.Nat.{ℕ, _+_}
-use mathlib.Core.Bool.{Bool, not}
 use mathlib.Core.List.{List}
-use lib.Dec.{eqb, ltb}
+use lib.Dec.{ltb}
 use lib.ListN.{length, set}
 use Rattle.base.specs.Test.{if}
 use Rattle.base.specs.Lists.{_at_}
@@ -14,7 +12,7 @@ use Rattle.ops.specs.Machine.{cfpB, IA}
 use Rattle.rules.specs.Number.{badAddress, constantWrite}
 use Rattle.rules.specs.Effect.{Effect, done, trap}
 use Rattle.rules.specs.Operand.{Operand, Cell, cell, nothing, Spot, literal, inside, address, spotOf, wordAt}
-use Rattle.real_rules.specs.Real.{Real, realOf, both, negated, tests, zeroReal, Whole, within, beyond, wholeOf, ofWord, raOf, settled}
+use Rattle.real_rules.specs.Real.{Real, realOf, Whole, within, beyond, wholeOf, raOf, settled}
 
 -- two words of memory, the low one first
 pub data Pair : Type 0 where

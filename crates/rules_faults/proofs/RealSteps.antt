@@ -1,29 +1,25 @@
 -- The real operations, a step each, the numbers from the papers and from the patterns of 64-bit floats [02 Wish 5].
 -- Assumes nothing.
 use Prim.Native.Nat.{ℕ}
-use mathlib.Core.Path.{_≡_, ap, fun-ext}
-use mathlib.Core.Bool.{Bool, true, false, cond}
+use mathlib.Core.Path.{_≡_}
 use mathlib.Core.List.{List, [], _∷_, _++_}
-use lib.ListN.{replicate}
 use Rattle.base.specs.Test.{_and_, _or_, if}
-use Rattle.base.specs.Lists.{_at_, member, same}
-use Rattle.ops.specs.Machine.{XL, WA}
+use Rattle.base.specs.Lists.{member, same}
 use Rattle.ops.specs.Ops.{rows}
 use Rattle.words.specs.Words.{signed, fits, positive, textWords, shiftRight, shiftLeft}
-use Rattle.rules.specs.Number.{outcomeNumber, refusalNumber}
 use Rattle.rules.specs.Table.{size, constants, workings, freshCount, externals, section4, section5, section6, freshAt, exitCount, startWord, tableLength, field, classAt, opAt, value, target1, target2, target3, slot, executable, bodyAt, namesProcedure, namesExternal, callee, declared, calls, entryPlace, isEntry, entryOf}
 use Rattle.rules.specs.Check.{smaller, among, registerOk, valueOk, operandOk, thirdOk, apart, outside, reaches, isOutside, startsSection, allExits, exitList, iffs, valueKnown, unlike, distinctIffs, switchList, exitNumberOk, sectionsOk, freshOk, countsOk, limitsOk, layoutOk}
-use Rattle.rules.specs.State.{State, memoryFits, stateOk}
+use Rattle.rules.specs.State.{memoryFits, stateOk}
 use Rattle.rules.specs.Operand.{spotOf, movedOf, wordAt, charAt, given, fetchOf, storeOf, charIn, withChar, fetchCharOf, storeCharOf}
 use Rattle.rules.specs.Exec.{changes, copies, combines, tells, compares, loads, accumulated, divided, leiOf, mfiOf, cvmBy, cvmOf, cvdOf, charsFit, ranged, copiedChars, copiedWords, translated, compared, cmcOf, trcOf, mvcOf, mvwOf, lchOf, schOf, act}
-use Rattle.rules.specs.Control.{stateAt, exitOf, choose, effectOf, step}
-use Rattle.rules.specs.Run.{Answer, Call, refused, ended, nowhere, runs, resumes, steps, ran, perform, answer}
+use Rattle.rules.specs.Control.{exitOf, choose, effectOf, step}
+use Rattle.rules.specs.Run.{steps, ran, perform}
 use lib.Ieee.{add, sub, mul, div, neg, lt, le, eq, ne, ofInt, ofBits, toBits}
 use Rattle.real_rules.specs.Real.{realOf, settled}
 use Rattle.rules.specs.Pair.{pairOf, loadsReal, storesPair, rtiOf}
 use Rattle.rules.specs.Start.{machineWords, filled, supplied, refreshed, loaded, started, startOn}
 use Rattle.rules.proofs.Faults.{entryApart, entryOk, faultBy, quickBelow, quickFault, quickTable, rowsFrom}
-use Rattle.rules.proofs.Edges.{Edge, taken, stops, differing, quick-differing, quickDiffering, quick-answer, quickAnswer, quickVerdict}
+use Rattle.rules.proofs.Edges.{Edge, taken, stops, differing, quick-differing, quickDiffering, quickAnswer, quickVerdict}
 
 -- the machine's words with RA, its flag and IA as given, the others set too
 abbrev with : ℕ → ℕ → ℕ → ℕ → List ℕ

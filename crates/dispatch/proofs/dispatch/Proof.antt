@@ -17,9 +17,10 @@ use Rattle.exec_branches.proofs.Takes as branches
 use Rattle.exec_chars.proofs.Takes as chars
 use Rattle.exec_integers.proofs.Takes as integers
 use Rattle.exec_moves.proofs.Takes as moves
+use Rattle.exec_reals.proofs.Takes as reals
 use Rattle.exec_calls.proofs.Linked.{links-count}
 use Rattle.exec_control.proofs.Ready.{stands, few-links, open-links, roomy-memory}
-use Rattle.dispatch.proofs.Listed.{above-reals, below-reals, between-reals, converts-listed, real-listed, unlisted}
+use Rattle.dispatch.proofs.Listed.{above-reals, below-reals, between-reals, computes-listed, converts-listed, tests-listed, unlisted}
 use borrow.Author.Needs.{needs}
 use Rattle.dispatch.proofs.dispatch.Statement.{statement}
 use Rattle.dispatch.proofs.dispatch.Tie as tie
@@ -183,104 +184,116 @@ ilt-requires c κs = entry-of isPlace readable going 415 branches.ilt-takes (rea
 ine-requires : tie.Need-ine-requires
 ine-requires c κs = entry-of isPlace readable going 416 branches.ine-takes (ready (c .before .before .before .before .before .pre)) (c .before .match .keys50)
 
+ldr-requires : tie.Need-ldr-requires
+ldr-requires c κs = entry-of steady readable going 501 reals.ldr-takes (ready (c .before .before .before .before .before .before .pre)) (c .before .before .match .keys51)
+
+str-requires : tie.Need-str-requires
+str-requires c κs = entry-of steady readable going 502 reals.str-takes (ready (c .before .before .before .before .before .before .pre)) (c .before .before .match .keys52)
+
+rov-requires : tie.Need-rov-requires
+rov-requires c κs = entry-of isPlace readable going 507 reals.rov-takes (ready (c .before .before .before .before .before .pre)) (c .before .match .keys53)
+
+rno-requires : tie.Need-rno-requires
+rno-requires c κs = entry-of isPlace readable going 508 reals.rno-takes (ready (c .before .before .before .before .before .pre)) (c .before .match .keys54)
+
 plc-requires : tie.Need-plc-requires
-plc-requires c κs = entry-of inRegister readable going 601 chars.plc-takes (ready (c .before .before .before .before .before .before .pre)) (c .before .before .match .keys51)
+plc-requires c κs = entry-of inRegister readable going 601 chars.plc-takes (ready (c .before .before .before .before .before .before .pre)) (c .before .before .match .keys55)
 
 psc-requires : tie.Need-psc-requires
-psc-requires c κs = entry-of inRegister readable going 602 chars.psc-takes (ready (c .before .before .before .before .before .before .pre)) (c .before .before .match .keys52)
+psc-requires c κs = entry-of inRegister readable going 602 chars.psc-takes (ready (c .before .before .before .before .before .before .pre)) (c .before .before .match .keys56)
 
 lch-requires : tie.Need-lch-requires
-lch-requires c κs = entry-of inRegister pointing going 603 chars.lch-takes (ready (c .before .before .before .before .before .before .pre)) (c .before .before .match .keys53)
+lch-requires c κs = entry-of inRegister pointing going 603 chars.lch-takes (ready (c .before .before .before .before .before .before .pre)) (c .before .before .match .keys57)
 
 sch-requires : tie.Need-sch-requires
-sch-requires c κs = entry-of inRegister pointing going 604 chars.sch-takes (ready (c .before .before .before .before .before .before .pre)) (c .before .before .match .keys54)
+sch-requires c κs = entry-of inRegister pointing going 604 chars.sch-takes (ready (c .before .before .before .before .before .before .pre)) (c .before .before .match .keys58)
 
 csc-requires : tie.Need-csc-requires
 csc-requires c κs = ready-inside (ready (c .before .before .before .before .pre)) .1
 
 ceq-requires : tie.Need-ceq-requires
-ceq-requires c κs = entry-of readable readable branching 606 branches.ceq-takes (ready (c .before .before .before .before .before .before .pre)) (c .before .before .match .keys56)
+ceq-requires c κs = entry-of readable readable branching 606 branches.ceq-takes (ready (c .before .before .before .before .before .before .pre)) (c .before .before .match .keys60)
 
 cne-requires : tie.Need-cne-requires
-cne-requires c κs = entry-of readable readable branching 607 branches.cne-takes (ready (c .before .before .before .before .before .before .pre)) (c .before .before .match .keys57)
+cne-requires c κs = entry-of readable readable branching 607 branches.cne-takes (ready (c .before .before .before .before .before .before .pre)) (c .before .before .match .keys61)
 
 cmc-requires : tie.Need-cmc-requires
-cmc-requires c κs = (entry-of isPlace isPlace going 608 blocks.cmc-takes (ready (c .before .before .before .before .before .before .pre)) (c .before .before .match .keys58), memory-most (c .before .before .before .before .before .before .pre))
+cmc-requires c κs = (entry-of isPlace isPlace going 608 blocks.cmc-takes (ready (c .before .before .before .before .before .before .pre)) (c .before .before .match .keys62), memory-most (c .before .before .before .before .before .before .pre))
 
 trc-requires : tie.Need-trc-requires
-trc-requires c κs = (entry-of readable readable going 609 blocks.trc-takes (ready (c .before .before .before .before .before .before .pre)) (c .before .before .match .keys59), memory-most (c .before .before .before .before .before .before .pre))
+trc-requires c κs = (entry-of readable readable going 609 blocks.trc-takes (ready (c .before .before .before .before .before .before .pre)) (c .before .before .match .keys63), memory-most (c .before .before .before .before .before .before .pre))
 
 anb-requires : tie.Need-anb-requires
-anb-requires c κs = entry-of readable inRegister going 701 bits.anb-takes (ready (c .before .before .before .before .before .before .pre)) (c .before .before .match .keys60)
+anb-requires c κs = entry-of readable inRegister going 701 bits.anb-takes (ready (c .before .before .before .before .before .before .pre)) (c .before .before .match .keys64)
 
 orb-requires : tie.Need-orb-requires
-orb-requires c κs = entry-of readable inRegister going 702 bits.orb-takes (ready (c .before .before .before .before .before .before .pre)) (c .before .before .match .keys61)
+orb-requires c κs = entry-of readable inRegister going 702 bits.orb-takes (ready (c .before .before .before .before .before .before .pre)) (c .before .before .match .keys65)
 
 xob-requires : tie.Need-xob-requires
-xob-requires c κs = entry-of readable inRegister going 703 bits.xob-takes (ready (c .before .before .before .before .before .before .pre)) (c .before .before .match .keys62)
+xob-requires c κs = entry-of readable inRegister going 703 bits.xob-takes (ready (c .before .before .before .before .before .before .pre)) (c .before .before .match .keys66)
 
 cmb-requires : tie.Need-cmb-requires
-cmb-requires c κs = entry-of inRegister readable going 704 bits.cmb-takes (ready (c .before .before .before .before .before .pre)) (c .before .match .keys63)
+cmb-requires c κs = entry-of inRegister readable going 704 bits.cmb-takes (ready (c .before .before .before .before .before .pre)) (c .before .match .keys67)
 
 rsh-requires : tie.Need-rsh-requires
-rsh-requires c κs = entry-of inRegister heldHere going 705 bits.rsh-takes (ready (c .before .before .before .before .before .pre)) (c .before .match .keys64)
+rsh-requires c κs = entry-of inRegister heldHere going 705 bits.rsh-takes (ready (c .before .before .before .before .before .pre)) (c .before .match .keys68)
 
 lsh-requires : tie.Need-lsh-requires
-lsh-requires c κs = entry-of inRegister heldHere going 706 bits.lsh-takes (ready (c .before .before .before .before .before .pre)) (c .before .match .keys65)
+lsh-requires c κs = entry-of inRegister heldHere going 706 bits.lsh-takes (ready (c .before .before .before .before .before .pre)) (c .before .match .keys69)
 
 rsx-requires : tie.Need-rsx-requires
-rsx-requires c κs = entry-of inRegister heldHere going 707 bits.rsx-takes (ready (c .before .before .before .before .before .pre)) (c .before .match .keys66)
+rsx-requires c κs = entry-of inRegister heldHere going 707 bits.rsx-takes (ready (c .before .before .before .before .before .pre)) (c .before .match .keys70)
 
 lsx-requires : tie.Need-lsx-requires
-lsx-requires c κs = entry-of inRegister heldHere going 708 bits.lsx-takes (ready (c .before .before .before .before .before .pre)) (c .before .match .keys67)
+lsx-requires c κs = entry-of inRegister heldHere going 708 bits.lsx-takes (ready (c .before .before .before .before .before .pre)) (c .before .match .keys71)
 
 nzb-requires : tie.Need-nzb-requires
-nzb-requires c κs = entry-of readable isPlace going 709 branches.nzb-takes (ready (c .before .before .before .before .before .before .pre)) (c .before .before .match .keys68)
+nzb-requires c κs = entry-of readable isPlace going 709 branches.nzb-takes (ready (c .before .before .before .before .before .before .pre)) (c .before .before .match .keys72)
 
 zrb-requires : tie.Need-zrb-requires
-zrb-requires c κs = entry-of readable isPlace going 710 branches.zrb-takes (ready (c .before .before .before .before .before .before .pre)) (c .before .before .match .keys69)
+zrb-requires c κs = entry-of readable isPlace going 710 branches.zrb-takes (ready (c .before .before .before .before .before .before .pre)) (c .before .before .match .keys73)
 
 zgb-requires : tie.Need-zgb-requires
 zgb-requires c κs = ready-inside (ready (c .before .before .before .before .pre)) .1
 
 wtb-requires : tie.Need-wtb-requires
-wtb-requires c κs = entry-of inRegister readable going 801 bits.wtb-takes (ready (c .before .before .before .before .before .pre)) (c .before .match .keys71)
+wtb-requires c κs = entry-of inRegister readable going 801 bits.wtb-takes (ready (c .before .before .before .before .before .pre)) (c .before .match .keys75)
 
 btw-requires : tie.Need-btw-requires
-btw-requires c κs = entry-of inRegister readable going 802 bits.btw-takes (ready (c .before .before .before .before .before .pre)) (c .before .match .keys72)
+btw-requires c κs = entry-of inRegister readable going 802 bits.btw-takes (ready (c .before .before .before .before .before .pre)) (c .before .match .keys76)
 
 mti-requires : tie.Need-mti-requires
-mti-requires c κs = entry-of readable readable going 803 integers.mti-takes (ready (c .before .before .before .before .before .before .pre)) (c .before .before .match .keys73)
+mti-requires c κs = entry-of readable readable going 803 integers.mti-takes (ready (c .before .before .before .before .before .before .pre)) (c .before .before .match .keys77)
 
 mfi-requires : tie.Need-mfi-requires
-mfi-requires c κs = entry-of writable readable going 804 integers.mfi-takes (ready (c .before .before .before .before .before .before .pre)) (c .before .before .match .keys74)
+mfi-requires c κs = entry-of writable readable going 804 integers.mfi-takes (ready (c .before .before .before .before .before .before .pre)) (c .before .before .match .keys78)
 
 ctw-requires : tie.Need-ctw-requires
-ctw-requires c κs = entry-of inRegister heldHere going 807 bits.ctw-takes (ready (c .before .before .before .before .before .pre)) (c .before .match .keys75)
+ctw-requires c κs = entry-of inRegister heldHere going 807 bits.ctw-takes (ready (c .before .before .before .before .before .pre)) (c .before .match .keys79)
 
 ctb-requires : tie.Need-ctb-requires
-ctb-requires c κs = entry-of inRegister heldHere going 808 bits.ctb-takes (ready (c .before .before .before .before .before .pre)) (c .before .match .keys76)
+ctb-requires c κs = entry-of inRegister heldHere going 808 bits.ctb-takes (ready (c .before .before .before .before .before .pre)) (c .before .match .keys80)
 
 btc-requires : tie.Need-btc-requires
 btc-requires c κs = ready-inside (ready (c .before .before .before .before .pre)) .1
 
 wtc-requires : tie.Need-wtc-requires
-wtc-requires c κs = entry-of inRegister readable going 810 bits.wtc-takes (ready (c .before .before .before .before .before .pre)) (c .before .match .keys78)
+wtc-requires c κs = entry-of inRegister readable going 810 bits.wtc-takes (ready (c .before .before .before .before .before .pre)) (c .before .match .keys82)
 
 cvm-requires : tie.Need-cvm-requires
-cvm-requires c κs = entry-of isPlace readable going 811 integers.cvm-takes (ready (c .before .before .before .before .before .pre)) (c .before .match .keys79)
+cvm-requires c κs = entry-of isPlace readable going 811 integers.cvm-takes (ready (c .before .before .before .before .before .pre)) (c .before .match .keys83)
 
 cvd-requires : tie.Need-cvd-requires
-cvd-requires c κs = entry-of readable readable going 812 integers.cvd-takes (ready (c .before .before .before .before .before .pre)) (c .before .match .keys80)
+cvd-requires c κs = entry-of readable readable going 812 integers.cvd-takes (ready (c .before .before .before .before .before .pre)) (c .before .match .keys84)
 
 mvc-requires : tie.Need-mvc-requires
-mvc-requires c κs = (entry-of readable readable going 901 blocks.mvc-takes (ready (c .before .before .before .before .before .before .pre)) (c .before .before .match .keys81), memory-most (c .before .before .before .before .before .before .pre))
+mvc-requires c κs = (entry-of readable readable going 901 blocks.mvc-takes (ready (c .before .before .before .before .before .before .pre)) (c .before .before .match .keys85), memory-most (c .before .before .before .before .before .before .pre))
 
 mvw-requires : tie.Need-mvw-requires
-mvw-requires c κs = (entry-of readable readable going 903 blocks.mvw-takes (ready (c .before .before .before .before .before .before .pre)) (c .before .before .match .keys82), memory-most (c .before .before .before .before .before .before .pre))
+mvw-requires c κs = (entry-of readable readable going 903 blocks.mvw-takes (ready (c .before .before .before .before .before .before .pre)) (c .before .before .match .keys86), memory-most (c .before .before .before .before .before .before .pre))
 
 chk-requires : tie.Need-chk-requires
-chk-requires c κs = (stands (c .before .before .before .before .before .before .pre) (c .before .before .match .keys83), roomy-memory (c .before .before .before .before .before .before .pre))
+chk-requires c κs = (stands (c .before .before .before .before .before .before .pre) (c .before .before .match .keys87), roomy-memory (c .before .before .before .before .before .before .pre))
 
 same-length : tie.Need-same-length
 same-length c = c .before .before .mov .kept .1 .1 .0
@@ -580,217 +593,250 @@ same-length-32 c = refl
 
 returns-51 : tie.Need-returns-51
 unfolding rows if
-returns-51 c = (goes-step (c .before .before .before .before .before .before .before .pre) 601 Op.PLC (c .before .before .before .match .keys51) refl refl (c .plc .ensures (c .before .before .before .before .before .before .before .args .c)), refl)
+returns-51 c = (goes-step (c .before .before .before .before .before .before .before .pre) 501 Op.LDR (c .before .before .before .match .keys51) refl refl (c .ldr .ensures), refl)
 
 same-length-33 : tie.Need-same-length-33
-same-length-33 c = refl
+same-length-33 c = c .before .before .str .kept .1 .1 .0
 
 returns-52 : tie.Need-returns-52
 unfolding rows if
-returns-52 c = (goes-step (c .before .before .before .before .before .before .before .pre) 602 Op.PSC (c .before .before .before .match .keys52) refl refl (c .psc .ensures (c .before .before .before .before .before .before .before .args .c)), refl)
+returns-52 c = (goes-step (c .before .before .before .before .before .before .before .before .before .pre) 502 Op.STR (c .before .before .before .before .before .match .keys52) refl refl (c .before .before .str .ensures), refl)
+
+returns-53 : tie.Need-returns-53
+unfolding rows if
+returns-53 c = (forks-step (c .before .before .before .before .before .before .pre) 507 Op.ROV (c .before .before .match .keys53) refl refl (c .rov .ensures (c .before .before .before .before .before .before .args .m .now)), refl)
+
+returns-54 : tie.Need-returns-54
+unfolding rows if
+returns-54 c = (forks-step (c .before .before .before .before .before .before .pre) 508 Op.RNO (c .before .before .match .keys54) refl refl (c .rno .ensures (c .before .before .before .before .before .before .args .m .now)), refl)
 
 same-length-34 : tie.Need-same-length-34
 same-length-34 c = refl
 
-returns-53 : tie.Need-returns-53
-unfolding rows if
-returns-53 c = (goes-step (c .before .before .before .before .before .before .before .pre) 603 Op.LCH (c .before .before .before .match .keys53) refl refl (c .lch .ensures (c .before .before .before .before .before .before .before .args .c)), refl)
-
-same-length-35 : tie.Need-same-length-35
-same-length-35 c = c .before .before .sch .kept .1 .1 .0
-
-returns-54 : tie.Need-returns-54
-unfolding rows if
-returns-54 c = (goes-step (c .before .before .before .before .before .before .before .before .before .pre) 604 Op.SCH (c .before .before .before .before .before .match .keys54) refl refl (c .before .before .sch .ensures), refl)
-
 returns-55 : tie.Need-returns-55
 unfolding rows if
-returns-55 c = (goes-step (c .before .before .before .before .before .pre) 605 Op.idle (c .before .match .keys55) refl refl (c .csc .ensures (c .before .before .before .before .before .args .t .now) (c .before .before .before .before .before .args .z .now) (c .before .before .before .before .before .args .m .now) (c .before .before .before .before .before .args .c)), refl)
+returns-55 c = (goes-step (c .before .before .before .before .before .before .before .pre) 601 Op.PLC (c .before .before .before .match .keys55) refl refl (c .plc .ensures (c .before .before .before .before .before .before .before .args .c)), refl)
+
+same-length-35 : tie.Need-same-length-35
+same-length-35 c = refl
+
+returns-56 : tie.Need-returns-56
+unfolding rows if
+returns-56 c = (goes-step (c .before .before .before .before .before .before .before .pre) 602 Op.PSC (c .before .before .before .match .keys56) refl refl (c .psc .ensures (c .before .before .before .before .before .before .before .args .c)), refl)
 
 same-length-36 : tie.Need-same-length-36
 same-length-36 c = refl
 
-returns-56 : tie.Need-returns-56
-unfolding rows if
-returns-56 c = (forks-step (c .before .before .before .before .before .before .before .pre) 606 Op.CEQ (c .before .before .before .match .keys56) refl refl (c .ceq .ensures), refl)
-
-same-length-37 : tie.Need-same-length-37
-same-length-37 c = refl
-
 returns-57 : tie.Need-returns-57
 unfolding rows if
-returns-57 c = (forks-step (c .before .before .before .before .before .before .before .pre) 607 Op.CNE (c .before .before .before .match .keys57) refl refl (c .cne .ensures), refl)
+returns-57 c = (goes-step (c .before .before .before .before .before .before .before .pre) 603 Op.LCH (c .before .before .before .match .keys57) refl refl (c .lch .ensures (c .before .before .before .before .before .before .before .args .c)), refl)
+
+same-length-37 : tie.Need-same-length-37
+same-length-37 c = c .before .before .sch .kept .1 .1 .0
+
+returns-58 : tie.Need-returns-58
+unfolding rows if
+returns-58 c = (goes-step (c .before .before .before .before .before .before .before .before .before .pre) 604 Op.SCH (c .before .before .before .before .before .match .keys58) refl refl (c .before .before .sch .ensures), refl)
+
+returns-59 : tie.Need-returns-59
+unfolding rows if
+returns-59 c = (goes-step (c .before .before .before .before .before .pre) 605 Op.idle (c .before .match .keys59) refl refl (c .csc .ensures (c .before .before .before .before .before .args .t .now) (c .before .before .before .before .before .args .z .now) (c .before .before .before .before .before .args .m .now) (c .before .before .before .before .before .args .c)), refl)
 
 same-length-38 : tie.Need-same-length-38
 same-length-38 c = refl
 
-returns-58 : tie.Need-returns-58
+returns-60 : tie.Need-returns-60
 unfolding rows if
-returns-58 c = (forks-step (c .before .before .before .before .before .before .before .pre) 608 Op.CMC (c .before .before .before .match .keys58) refl refl (c .cmc .ensures), refl)
+returns-60 c = (forks-step (c .before .before .before .before .before .before .before .pre) 606 Op.CEQ (c .before .before .before .match .keys60) refl refl (c .ceq .ensures), refl)
 
 same-length-39 : tie.Need-same-length-39
-same-length-39 c = c .before .before .trc .kept .1 .1 .0
+same-length-39 c = refl
 
-returns-59 : tie.Need-returns-59
+returns-61 : tie.Need-returns-61
 unfolding rows if
-returns-59 c = (goes-step (c .before .before .before .before .before .before .before .before .before .pre) 609 Op.TRC (c .before .before .before .before .before .match .keys59) refl refl (c .before .before .trc .ensures), refl)
+returns-61 c = (forks-step (c .before .before .before .before .before .before .before .pre) 607 Op.CNE (c .before .before .before .match .keys61) refl refl (c .cne .ensures), refl)
 
 same-length-40 : tie.Need-same-length-40
 same-length-40 c = refl
 
-returns-60 : tie.Need-returns-60
+returns-62 : tie.Need-returns-62
 unfolding rows if
-returns-60 c = (goes-step (c .before .before .before .before .before .before .before .pre) 701 Op.ANB (c .before .before .before .match .keys60) refl refl (c .anb .ensures (c .before .before .before .before .before .before .before .args .c)), refl)
+returns-62 c = (forks-step (c .before .before .before .before .before .before .before .pre) 608 Op.CMC (c .before .before .before .match .keys62) refl refl (c .cmc .ensures), refl)
 
 same-length-41 : tie.Need-same-length-41
-same-length-41 c = refl
+same-length-41 c = c .before .before .trc .kept .1 .1 .0
 
-returns-61 : tie.Need-returns-61
+returns-63 : tie.Need-returns-63
 unfolding rows if
-returns-61 c = (goes-step (c .before .before .before .before .before .before .before .pre) 702 Op.ORB (c .before .before .before .match .keys61) refl refl (c .orb .ensures (c .before .before .before .before .before .before .before .args .c)), refl)
+returns-63 c = (goes-step (c .before .before .before .before .before .before .before .before .before .pre) 609 Op.TRC (c .before .before .before .before .before .match .keys63) refl refl (c .before .before .trc .ensures), refl)
 
 same-length-42 : tie.Need-same-length-42
 same-length-42 c = refl
 
-returns-62 : tie.Need-returns-62
-unfolding rows if
-returns-62 c = (goes-step (c .before .before .before .before .before .before .before .pre) 703 Op.XOB (c .before .before .before .match .keys62) refl refl (c .xob .ensures (c .before .before .before .before .before .before .before .args .c)), refl)
-
-returns-63 : tie.Need-returns-63
-unfolding rows if
-returns-63 c = (goes-step (c .before .before .before .before .before .before .pre) 704 Op.CMB (c .before .before .match .keys63) refl refl (c .cmb .ensures (c .before .before .before .before .before .before .args .c) (c .before .before .before .before .before .before .args .m .now)), refl)
-
 returns-64 : tie.Need-returns-64
 unfolding rows if
-returns-64 c = (goes-step (c .before .before .before .before .before .before .pre) 705 Op.RSH (c .before .before .match .keys64) refl refl (c .rsh .ensures (c .before .before .before .before .before .before .args .c) (c .before .before .before .before .before .before .args .m .now)), refl)
-
-returns-65 : tie.Need-returns-65
-unfolding rows if
-returns-65 c = (goes-step (c .before .before .before .before .before .before .pre) 706 Op.LSH (c .before .before .match .keys65) refl refl (c .lsh .ensures (c .before .before .before .before .before .before .args .c) (c .before .before .before .before .before .before .args .m .now)), refl)
-
-returns-66 : tie.Need-returns-66
-unfolding rows if
-returns-66 c = (goes-step (c .before .before .before .before .before .before .pre) 707 Op.RSX (c .before .before .match .keys66) refl refl (c .rsx .ensures (c .before .before .before .before .before .before .args .c) (c .before .before .before .before .before .before .args .m .now)), refl)
-
-returns-67 : tie.Need-returns-67
-unfolding rows if
-returns-67 c = (goes-step (c .before .before .before .before .before .before .pre) 708 Op.LSX (c .before .before .match .keys67) refl refl (c .lsx .ensures (c .before .before .before .before .before .before .args .c) (c .before .before .before .before .before .before .args .m .now)), refl)
+returns-64 c = (goes-step (c .before .before .before .before .before .before .before .pre) 701 Op.ANB (c .before .before .before .match .keys64) refl refl (c .anb .ensures (c .before .before .before .before .before .before .before .args .c)), refl)
 
 same-length-43 : tie.Need-same-length-43
 same-length-43 c = refl
 
-returns-68 : tie.Need-returns-68
+returns-65 : tie.Need-returns-65
 unfolding rows if
-returns-68 c = (forks-step (c .before .before .before .before .before .before .before .pre) 709 Op.NZB (c .before .before .before .match .keys68) refl refl (c .nzb .ensures), refl)
+returns-65 c = (goes-step (c .before .before .before .before .before .before .before .pre) 702 Op.ORB (c .before .before .before .match .keys65) refl refl (c .orb .ensures (c .before .before .before .before .before .before .before .args .c)), refl)
 
 same-length-44 : tie.Need-same-length-44
 same-length-44 c = refl
 
+returns-66 : tie.Need-returns-66
+unfolding rows if
+returns-66 c = (goes-step (c .before .before .before .before .before .before .before .pre) 703 Op.XOB (c .before .before .before .match .keys66) refl refl (c .xob .ensures (c .before .before .before .before .before .before .before .args .c)), refl)
+
+returns-67 : tie.Need-returns-67
+unfolding rows if
+returns-67 c = (goes-step (c .before .before .before .before .before .before .pre) 704 Op.CMB (c .before .before .match .keys67) refl refl (c .cmb .ensures (c .before .before .before .before .before .before .args .c) (c .before .before .before .before .before .before .args .m .now)), refl)
+
+returns-68 : tie.Need-returns-68
+unfolding rows if
+returns-68 c = (goes-step (c .before .before .before .before .before .before .pre) 705 Op.RSH (c .before .before .match .keys68) refl refl (c .rsh .ensures (c .before .before .before .before .before .before .args .c) (c .before .before .before .before .before .before .args .m .now)), refl)
+
 returns-69 : tie.Need-returns-69
 unfolding rows if
-returns-69 c = (forks-step (c .before .before .before .before .before .before .before .pre) 710 Op.ZRB (c .before .before .before .match .keys69) refl refl (c .zrb .ensures), refl)
+returns-69 c = (goes-step (c .before .before .before .before .before .before .pre) 706 Op.LSH (c .before .before .match .keys69) refl refl (c .lsh .ensures (c .before .before .before .before .before .before .args .c) (c .before .before .before .before .before .before .args .m .now)), refl)
 
 returns-70 : tie.Need-returns-70
 unfolding rows if
-returns-70 c = (goes-step (c .before .before .before .before .before .pre) 711 Op.idle (c .before .match .keys70) refl refl (c .zgb .ensures (c .before .before .before .before .before .args .t .now) (c .before .before .before .before .before .args .z .now) (c .before .before .before .before .before .args .m .now) (c .before .before .before .before .before .args .c)), refl)
+returns-70 c = (goes-step (c .before .before .before .before .before .before .pre) 707 Op.RSX (c .before .before .match .keys70) refl refl (c .rsx .ensures (c .before .before .before .before .before .before .args .c) (c .before .before .before .before .before .before .args .m .now)), refl)
 
 returns-71 : tie.Need-returns-71
 unfolding rows if
-returns-71 c = (goes-step (c .before .before .before .before .before .before .pre) 801 Op.WTB (c .before .before .match .keys71) refl refl (c .wtb .ensures (c .before .before .before .before .before .before .args .c) (c .before .before .before .before .before .before .args .m .now)), refl)
-
-returns-72 : tie.Need-returns-72
-unfolding rows if
-returns-72 c = (goes-step (c .before .before .before .before .before .before .pre) 802 Op.BTW (c .before .before .match .keys72) refl refl (c .btw .ensures (c .before .before .before .before .before .before .args .c) (c .before .before .before .before .before .before .args .m .now)), refl)
+returns-71 c = (goes-step (c .before .before .before .before .before .before .pre) 708 Op.LSX (c .before .before .match .keys71) refl refl (c .lsx .ensures (c .before .before .before .before .before .before .args .c) (c .before .before .before .before .before .before .args .m .now)), refl)
 
 same-length-45 : tie.Need-same-length-45
 same-length-45 c = refl
 
-returns-73 : tie.Need-returns-73
+returns-72 : tie.Need-returns-72
 unfolding rows if
-returns-73 c = (goes-step (c .before .before .before .before .before .before .before .pre) 803 Op.MTI (c .before .before .before .match .keys73) refl refl (c .mti .ensures), refl)
+returns-72 c = (forks-step (c .before .before .before .before .before .before .before .pre) 709 Op.NZB (c .before .before .before .match .keys72) refl refl (c .nzb .ensures), refl)
 
 same-length-46 : tie.Need-same-length-46
-same-length-46 c = c .before .before .mfi .kept .1 .1 .0
+same-length-46 c = refl
+
+returns-73 : tie.Need-returns-73
+unfolding rows if
+returns-73 c = (forks-step (c .before .before .before .before .before .before .before .pre) 710 Op.ZRB (c .before .before .before .match .keys73) refl refl (c .zrb .ensures), refl)
 
 returns-74 : tie.Need-returns-74
 unfolding rows if
-returns-74 c = (forks-step (c .before .before .before .before .before .before .before .before .before .pre) 804 Op.MFI (c .before .before .before .before .before .match .keys74) refl refl (c .before .before .mfi .ensures), refl)
+returns-74 c = (goes-step (c .before .before .before .before .before .pre) 711 Op.idle (c .before .match .keys74) refl refl (c .zgb .ensures (c .before .before .before .before .before .args .t .now) (c .before .before .before .before .before .args .z .now) (c .before .before .before .before .before .args .m .now) (c .before .before .before .before .before .args .c)), refl)
 
 returns-75 : tie.Need-returns-75
 unfolding rows if
-returns-75 c = (goes-step (c .before .before .before .before .before .before .pre) 807 Op.CTW (c .before .before .match .keys75) refl refl (c .ctw .ensures (c .before .before .before .before .before .before .args .c) (c .before .before .before .before .before .before .args .m .now)), refl)
+returns-75 c = (goes-step (c .before .before .before .before .before .before .pre) 801 Op.WTB (c .before .before .match .keys75) refl refl (c .wtb .ensures (c .before .before .before .before .before .before .args .c) (c .before .before .before .before .before .before .args .m .now)), refl)
 
 returns-76 : tie.Need-returns-76
 unfolding rows if
-returns-76 c = (goes-step (c .before .before .before .before .before .before .pre) 808 Op.CTB (c .before .before .match .keys76) refl refl (c .ctb .ensures (c .before .before .before .before .before .before .args .c) (c .before .before .before .before .before .before .args .m .now)), refl)
+returns-76 c = (goes-step (c .before .before .before .before .before .before .pre) 802 Op.BTW (c .before .before .match .keys76) refl refl (c .btw .ensures (c .before .before .before .before .before .before .args .c) (c .before .before .before .before .before .before .args .m .now)), refl)
+
+same-length-47 : tie.Need-same-length-47
+same-length-47 c = refl
 
 returns-77 : tie.Need-returns-77
 unfolding rows if
-returns-77 c = (goes-step (c .before .before .before .before .before .pre) 809 Op.BTC (c .before .match .keys77) refl refl (c .btc .ensures (c .before .before .before .before .before .args .t .now) (c .before .before .before .before .before .args .z .now) (c .before .before .before .before .before .args .m .now) (c .before .before .before .before .before .args .c)), refl)
+returns-77 c = (goes-step (c .before .before .before .before .before .before .before .pre) 803 Op.MTI (c .before .before .before .match .keys77) refl refl (c .mti .ensures), refl)
+
+same-length-48 : tie.Need-same-length-48
+same-length-48 c = c .before .before .mfi .kept .1 .1 .0
 
 returns-78 : tie.Need-returns-78
 unfolding rows if
-returns-78 c = (goes-step (c .before .before .before .before .before .before .pre) 810 Op.WTC (c .before .before .match .keys78) refl refl (c .wtc .ensures (c .before .before .before .before .before .before .args .c) (c .before .before .before .before .before .before .args .m .now)), refl)
+returns-78 c = (forks-step (c .before .before .before .before .before .before .before .before .before .pre) 804 Op.MFI (c .before .before .before .before .before .match .keys78) refl refl (c .before .before .mfi .ensures), refl)
 
 returns-79 : tie.Need-returns-79
 unfolding rows if
-returns-79 c = (forks-step (c .before .before .before .before .before .before .pre) 811 Op.CVM (c .before .before .match .keys79) refl refl (c .cvm .ensures (c .before .before .before .before .before .before .args .m .now)), refl)
+returns-79 c = (goes-step (c .before .before .before .before .before .before .pre) 807 Op.CTW (c .before .before .match .keys79) refl refl (c .ctw .ensures (c .before .before .before .before .before .before .args .c) (c .before .before .before .before .before .before .args .m .now)), refl)
 
 returns-80 : tie.Need-returns-80
 unfolding rows if
-returns-80 c = (goes-step (c .before .before .before .before .before .before .pre) 812 Op.CVD (c .before .before .match .keys80) refl refl (c .cvd .ensures (c .before .before .before .before .before .before .args .m .now)), refl)
-
-same-length-47 : tie.Need-same-length-47
-same-length-47 c = c .before .before .mvc .kept .1 .1 .0
+returns-80 c = (goes-step (c .before .before .before .before .before .before .pre) 808 Op.CTB (c .before .before .match .keys80) refl refl (c .ctb .ensures (c .before .before .before .before .before .before .args .c) (c .before .before .before .before .before .before .args .m .now)), refl)
 
 returns-81 : tie.Need-returns-81
 unfolding rows if
-returns-81 c = (goes-step (c .before .before .before .before .before .before .before .before .before .pre) 901 Op.MVC (c .before .before .before .before .before .match .keys81) refl refl (c .before .before .mvc .ensures), refl)
-
-same-length-48 : tie.Need-same-length-48
-same-length-48 c = c .before .before .mvw .kept .1 .1 .0
+returns-81 c = (goes-step (c .before .before .before .before .before .pre) 809 Op.BTC (c .before .match .keys81) refl refl (c .btc .ensures (c .before .before .before .before .before .args .t .now) (c .before .before .before .before .before .args .z .now) (c .before .before .before .before .before .args .m .now) (c .before .before .before .before .before .args .c)), refl)
 
 returns-82 : tie.Need-returns-82
 unfolding rows if
-returns-82 c = (goes-step (c .before .before .before .before .before .before .before .before .before .pre) 903 Op.MVW (c .before .before .before .before .before .match .keys82) refl refl (c .before .before .mvw .ensures), refl)
-
-same-length-49 : tie.Need-same-length-49
-same-length-49 c = refl
+returns-82 c = (goes-step (c .before .before .before .before .before .before .pre) 810 Op.WTC (c .before .before .match .keys82) refl refl (c .wtc .ensures (c .before .before .before .before .before .before .args .c) (c .before .before .before .before .before .before .args .m .now)), refl)
 
 returns-83 : tie.Need-returns-83
 unfolding rows if
-returns-83 c = (c .chk .ensures (c .before .before .before .before .before .before .before .args .c) (openLinks (c .before .before .before .before .before .before .before .args .links .now)) ∙ controls-step (c .before .before .before .before .before .before .before .pre) 1001 Class.CHK Op.checks (c .before .before .before .match .keys83) refl refl, refl)
-
-same-length-50 : tie.Need-same-length-50
-same-length-50 c = search needs
+returns-83 c = (forks-step (c .before .before .before .before .before .before .pre) 811 Op.CVM (c .before .before .match .keys83) refl refl (c .cvm .ensures (c .before .before .before .before .before .before .args .m .now)), refl)
 
 returns-84 : tie.Need-returns-84
-returns-84 c = search needs
+unfolding rows if
+returns-84 c = (goes-step (c .before .before .before .before .before .before .pre) 812 Op.CVD (c .before .before .match .keys84) refl refl (c .cvd .ensures (c .before .before .before .before .before .before .args .m .now)), refl)
 
-same-length-51 : tie.Need-same-length-51
-same-length-51 c = search needs
+same-length-49 : tie.Need-same-length-49
+same-length-49 c = c .before .before .mvc .kept .1 .1 .0
 
 returns-85 : tie.Need-returns-85
-returns-85 c = search needs
+unfolding rows if
+returns-85 c = (goes-step (c .before .before .before .before .before .before .before .before .before .pre) 901 Op.MVC (c .before .before .before .before .before .match .keys85) refl refl (c .before .before .mvc .ensures), refl)
 
-real-step-requires : tie.Need-real-step-requires
-real-step-requires c κs = (c .before .before .before .before .before .before .before .before .before .pre, real-listed _ (omega (arith, c .before .before .before .before .if1 .left)) (omega (arith, c .before .before .before .if2 .taken)))
-
-real-step-requires-2 : tie.Need-real-step-requires-2
-real-step-requires-2 c κs = (c .before .before .before .before .before .before .before .before .before .before .before .pre, converts-listed _ (c .before .before .before .before .if3 .left) (c .before .before .before .before .before .before .before .match .rest .0 .0 .0 .0 .0 .0 .0 .0 .0 .0 .0 .0 .1) (c .before .before .before .before .before .before .before .match .rest .0 .0 .0 .0 .0 .0 .0 .0 .0 .0 .0 .1) (c .before .before .before .before .before .before .before .match .rest .0 .0 .0 .0 .0 .0 .0 .0 .0 .0 .1) (c .before .before .before .before .before .before .before .match .rest .0 .0 .0 .0 .0 .0 .0 .0 .0 .1) (c .before .before .before .if4 .taken))
+same-length-50 : tie.Need-same-length-50
+same-length-50 c = c .before .before .mvw .kept .1 .1 .0
 
 returns-86 : tie.Need-returns-86
-unfolding rows _and_ _or_
-returns-86 c = absurd (unlisted (c .before .before .before .before .before .pre) (c .before .match .rest) (below-reals (c .before .before .before .before .before .args .t .now at c .before .before .before .before .before .args .b) (omega (arith, c .if1 .taken))))
+unfolding rows if
+returns-86 c = (goes-step (c .before .before .before .before .before .before .before .before .before .pre) 903 Op.MVW (c .before .before .before .before .before .match .keys86) refl refl (c .before .before .mvw .ensures), refl)
+
+same-length-51 : tie.Need-same-length-51
+same-length-51 c = refl
 
 returns-87 : tie.Need-returns-87
-unfolding rows _and_ _or_
-returns-87 c =
-    absurd (unlisted (c .before .before .before .before .before .before .before .pre) (c .before .before .before .match .rest) (between-reals (c .before .before .before .before .before .before .before .args .t .now at c .before .before .before .before .before .before .before .args .b) (omega (arith, c .before .if2 .left)) (omega (arith, c .if3 .taken))))
+unfolding rows if
+returns-87 c = (c .chk .ensures (c .before .before .before .before .before .before .before .args .c) (openLinks (c .before .before .before .before .before .before .before .args .links .now)) ∙ controls-step (c .before .before .before .before .before .before .before .pre) 1001 Class.CHK Op.checks (c .before .before .before .match .keys87) refl refl, refl)
+
+real-step-requires : tie.Need-real-step-requires
+real-step-requires c κs = (c .before .before .before .before .before .before .before .before .before .pre, computes-listed _ (c .before .before .before .before .if1 .left) (c .before .before .before .before .before .match .rest .0 .0 .0 .0 .0 .0 .0 .0 .0 .0 .0 .0 .0 .0 .0 .0 .0 .0 .0 .0 .0 .0 .0 .0 .0 .0 .0 .0 .0 .0 .0 .0 .0 .0 .0 .0 .1) (c .before .before .before .before .before .match .rest .0 .0 .0 .0 .0 .0 .0 .0 .0 .0 .0 .0 .0 .0 .0 .0 .0 .0 .0 .0 .0 .0 .0 .0 .0 .0 .0 .0 .0 .0 .0 .0 .0 .0 .0 .1) (c .before .before .before .if2 .taken))
+
+real-step-requires-2 : tie.Need-real-step-requires-2
+real-step-requires-2 c κs = (c .before .before .before .before .before .before .before .before .before .before .pre, tests-listed _ (c .before .before .before .before .if2 .left) (c .before .before .before .before .before .before .match .rest .0 .0 .0 .0 .0 .0 .0 .0 .0 .0 .0 .0 .0 .0 .0 .0 .0 .0 .0 .0 .0 .0 .0 .0 .0 .0 .0 .0 .0 .0 .0 .0 .0 .0 .1) (c .before .before .before .before .before .before .match .rest .0 .0 .0 .0 .0 .0 .0 .0 .0 .0 .0 .0 .0 .0 .0 .0 .0 .0 .0 .0 .0 .0 .0 .0 .0 .0 .0 .0 .0 .0 .0 .0 .0 .1) (c .before .before .before .if3 .taken))
+
+real-step-requires-3 : tie.Need-real-step-requires-3
+real-step-requires-3 c κs =
+    (c .before .before .before .before .before .before .before .before .before .before .before .before .pre, converts-listed _ (c .before .before .before .before .if4 .left) (c .before .before .before .before .before .before .before .before .match .rest .0 .0 .0 .0 .0 .0 .0 .0 .0 .0 .0 .0 .1) (c .before .before .before .before .before .before .before .before .match .rest .0 .0 .0 .0 .0 .0 .0 .0 .0 .0 .0 .1) (c .before .before .before .before .before .before .before .before .match .rest .0 .0 .0 .0 .0 .0 .0 .0 .0 .0 .1) (c .before .before .before .before .before .before .before .before .match .rest .0 .0 .0 .0 .0 .0 .0 .0 .0 .1) (c .before .before .before .if5 .taken))
+
+same-length-52 : tie.Need-same-length-52
+same-length-52 c = search needs
 
 returns-88 : tie.Need-returns-88
+returns-88 c = search needs
+
+same-length-53 : tie.Need-same-length-53
+same-length-53 c = search needs
+
+returns-89 : tie.Need-returns-89
+returns-89 c = search needs
+
+same-length-54 : tie.Need-same-length-54
+same-length-54 c = search needs
+
+returns-90 : tie.Need-returns-90
+returns-90 c = search needs
+
+returns-91 : tie.Need-returns-91
 unfolding rows _and_ _or_
-returns-88 c = absurd (unlisted (c .before .before .before .before .before .before .before .before .pre) (c .before .before .before .before .match .rest) (above-reals (c .before .before .before .before .before .before .before .before .args .t .now at c .before .before .before .before .before .before .before .before .args .b) (omega (arith, c .if4 .left))))
+returns-91 c = absurd (unlisted (c .before .before .before .before .before .pre) (c .before .match .rest) (below-reals (c .before .before .before .before .before .args .t .now at c .before .before .before .before .before .args .b) (omega (arith, c .if1 .taken))))
+
+returns-92 : tie.Need-returns-92
+unfolding rows _and_ _or_
+returns-92 c =
+    absurd
+    (unlisted (c .before .before .before .before .before .before .before .before .pre) (c .before .before .before .before .match .rest) (between-reals (c .before .before .before .before .before .before .before .before .args .t .now at c .before .before .before .before .before .before .before .before .args .b) (omega (arith, c .before .if3 .left)) (omega (arith, c .if4 .taken))))
+
+returns-93 : tie.Need-returns-93
+unfolding rows _and_ _or_
+returns-93 c = absurd (unlisted (c .before .before .before .before .before .before .before .before .before .pre) (c .before .before .before .before .before .match .rest) (above-reals (c .before .before .before .before .before .before .before .before .before .args .t .now at c .before .before .before .before .before .before .before .before .before .args .b) (omega (arith, c .if5 .left))))
 
 pub dispatch-spec : {M : Type 1} → statement M
 dispatch-spec =
@@ -849,6 +895,10 @@ dispatch-spec =
     ile-requires
     ilt-requires
     ine-requires
+    ldr-requires
+    str-requires
+    rov-requires
+    rno-requires
     plc-requires
     psc-requires
     lch-requires
@@ -884,6 +934,7 @@ dispatch-spec =
     chk-requires
     real-step-requires
     real-step-requires-2
+    real-step-requires-3
     same-length
     returns
     returns-2
@@ -969,57 +1020,65 @@ dispatch-spec =
     returns-51
     same-length-33
     returns-52
-    same-length-34
     returns-53
-    same-length-35
     returns-54
+    same-length-34
     returns-55
-    same-length-36
+    same-length-35
     returns-56
-    same-length-37
+    same-length-36
     returns-57
-    same-length-38
+    same-length-37
     returns-58
-    same-length-39
     returns-59
-    same-length-40
+    same-length-38
     returns-60
-    same-length-41
+    same-length-39
     returns-61
-    same-length-42
+    same-length-40
     returns-62
+    same-length-41
     returns-63
+    same-length-42
     returns-64
+    same-length-43
     returns-65
+    same-length-44
     returns-66
     returns-67
-    same-length-43
     returns-68
-    same-length-44
     returns-69
     returns-70
     returns-71
-    returns-72
     same-length-45
-    returns-73
+    returns-72
     same-length-46
+    returns-73
     returns-74
     returns-75
     returns-76
+    same-length-47
     returns-77
+    same-length-48
     returns-78
     returns-79
     returns-80
-    same-length-47
     returns-81
-    same-length-48
     returns-82
-    same-length-49
     returns-83
-    same-length-50
     returns-84
-    same-length-51
+    same-length-49
     returns-85
+    same-length-50
     returns-86
+    same-length-51
     returns-87
-    returns-88)
+    same-length-52
+    returns-88
+    same-length-53
+    returns-89
+    same-length-54
+    returns-90
+    returns-91
+    returns-92
+    returns-93)

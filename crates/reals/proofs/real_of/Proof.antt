@@ -3,7 +3,6 @@
 use mathlib.Core.Path.{sym, subst}
 use mathlib.Core.Bool.{not}
 use lib.Dec.{T}
-use lib.Ieee.{nanBits}
 use Rattle.real_rules.proofs.Laws.{pair-no-nan, pair-finite, pair-beyond}
 use borrow.Author.Needs.{needs}
 use Rattle.reals.proofs.real_of.Statement.{statement}

@@ -1,6 +1,6 @@
 -- `reals::settle` meets its contract: by cases of the answer; a value is no NaN.
 -- Assumes nothing.
-use mathlib.Core.Path.{sym, ap, subst, _∙_}
+use mathlib.Core.Path.{subst, _∙_}
 use lib.Dec.{T}
 use Rattle.reals.specs.declared.Real.{Real}
 use Rattle.real_rules.specs.Real.{settled}

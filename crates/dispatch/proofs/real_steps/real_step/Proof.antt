@@ -11,7 +11,6 @@ use Rattle.exec_core.proofs.Steps.{ready, goes-step, forks-step}
 use Rattle.exec_reals.proofs.Takes as reals
 use Rattle.dispatch.specs.Reals.{realNumbers}
 use Rattle.dispatch.proofs.Listed.{none-of}
-use borrow.Author.Needs.{needs}
 use Rattle.dispatch.proofs.real_steps.real_step.Statement.{statement}
 use Rattle.dispatch.proofs.real_steps.real_step.Tie as tie
 
@@ -21,145 +20,111 @@ mul-match c = omega (arith, ready-inside (ready (c .before .before .pre .0)))
 shared-slice-read-match : tie.Need-shared-slice-read-match
 shared-slice-read-match c = omega (arith, ready-inside (ready (c .before .before .before .pre .0)))
 
-ldr-requires : tie.Need-ldr-requires
-ldr-requires c κs = entry-of steady readable going 501 reals.ldr-takes (ready (c .before .before .before .before .before .before .pre .0)) (c .before .before .match .keys1)
-
-str-requires : tie.Need-str-requires
-str-requires c κs = entry-of steady readable going 502 reals.str-takes (ready (c .before .before .before .before .before .before .pre .0)) (c .before .before .match .keys2)
-
 adr-requires : tie.Need-adr-requires
-adr-requires c κs = entry-of steady readable going 503 reals.adr-takes (ready (c .before .before .before .before .before .before .pre .0)) (c .before .before .match .keys3)
+adr-requires c κs = entry-of steady readable going 503 reals.adr-takes (ready (c .before .before .before .before .before .before .pre .0)) (c .before .before .match .keys1)
 
 sbr-requires : tie.Need-sbr-requires
-sbr-requires c κs = entry-of steady readable going 504 reals.sbr-takes (ready (c .before .before .before .before .before .before .pre .0)) (c .before .before .match .keys4)
+sbr-requires c κs = entry-of steady readable going 504 reals.sbr-takes (ready (c .before .before .before .before .before .before .pre .0)) (c .before .before .match .keys2)
 
 mlr-requires : tie.Need-mlr-requires
-mlr-requires c κs = entry-of steady readable going 505 reals.mlr-takes (ready (c .before .before .before .before .before .before .pre .0)) (c .before .before .match .keys5)
+mlr-requires c κs = entry-of steady readable going 505 reals.mlr-takes (ready (c .before .before .before .before .before .before .pre .0)) (c .before .before .match .keys3)
 
 dvr-requires : tie.Need-dvr-requires
-dvr-requires c κs = entry-of steady readable going 506 reals.dvr-takes (ready (c .before .before .before .before .before .before .pre .0)) (c .before .before .match .keys6)
-
-rov-requires : tie.Need-rov-requires
-rov-requires c κs = entry-of isPlace readable going 507 reals.rov-takes (ready (c .before .before .before .before .before .pre .0)) (c .before .match .keys7)
-
-rno-requires : tie.Need-rno-requires
-rno-requires c κs = entry-of isPlace readable going 508 reals.rno-takes (ready (c .before .before .before .before .before .pre .0)) (c .before .match .keys8)
+dvr-requires c κs = entry-of steady readable going 506 reals.dvr-takes (ready (c .before .before .before .before .before .before .pre .0)) (c .before .before .match .keys4)
 
 ngr-requires : tie.Need-ngr-requires
-ngr-requires c κs = entry-of readable readable going 509 reals.ngr-takes (ready (c .before .before .before .before .before .pre .0)) (c .before .match .keys9)
+ngr-requires c κs = entry-of readable readable going 509 reals.ngr-takes (ready (c .before .before .before .before .before .pre .0)) (c .before .match .keys5)
 
 req-requires : tie.Need-req-requires
-req-requires c κs = entry-of isPlace readable going 510 reals.req-takes (ready (c .before .before .before .before .before .pre .0)) (c .before .match .keys10)
+req-requires c κs = entry-of isPlace readable going 510 reals.req-takes (ready (c .before .before .before .before .before .pre .0)) (c .before .match .keys6)
 
 rge-requires : tie.Need-rge-requires
-rge-requires c κs = entry-of isPlace readable going 511 reals.rge-takes (ready (c .before .before .before .before .before .pre .0)) (c .before .match .keys11)
+rge-requires c κs = entry-of isPlace readable going 511 reals.rge-takes (ready (c .before .before .before .before .before .pre .0)) (c .before .match .keys7)
 
 rgt-requires : tie.Need-rgt-requires
-rgt-requires c κs = entry-of isPlace readable going 512 reals.rgt-takes (ready (c .before .before .before .before .before .pre .0)) (c .before .match .keys12)
+rgt-requires c κs = entry-of isPlace readable going 512 reals.rgt-takes (ready (c .before .before .before .before .before .pre .0)) (c .before .match .keys8)
 
 rle-requires : tie.Need-rle-requires
-rle-requires c κs = entry-of isPlace readable going 513 reals.rle-takes (ready (c .before .before .before .before .before .pre .0)) (c .before .match .keys13)
+rle-requires c κs = entry-of isPlace readable going 513 reals.rle-takes (ready (c .before .before .before .before .before .pre .0)) (c .before .match .keys9)
 
 rlt-requires : tie.Need-rlt-requires
-rlt-requires c κs = entry-of isPlace readable going 514 reals.rlt-takes (ready (c .before .before .before .before .before .pre .0)) (c .before .match .keys14)
+rlt-requires c κs = entry-of isPlace readable going 514 reals.rlt-takes (ready (c .before .before .before .before .before .pre .0)) (c .before .match .keys10)
 
 rne-requires : tie.Need-rne-requires
-rne-requires c κs = entry-of isPlace readable going 515 reals.rne-takes (ready (c .before .before .before .before .before .pre .0)) (c .before .match .keys15)
+rne-requires c κs = entry-of isPlace readable going 515 reals.rne-takes (ready (c .before .before .before .before .before .pre .0)) (c .before .match .keys11)
 
 itr-requires : tie.Need-itr-requires
-itr-requires c κs = entry-of readable readable going 805 reals.itr-takes (ready (c .before .before .before .before .before .pre .0)) (c .before .match .keys16)
+itr-requires c κs = entry-of readable readable going 805 reals.itr-takes (ready (c .before .before .before .before .before .pre .0)) (c .before .match .keys12)
 
 rti-requires : tie.Need-rti-requires
-rti-requires c κs = entry-of readable readable going 806 reals.rti-takes (ready (c .before .before .before .before .before .pre .0)) (c .before .match .keys17)
+rti-requires c κs = entry-of readable readable going 806 reals.rti-takes (ready (c .before .before .before .before .before .pre .0)) (c .before .match .keys13)
 
 same-length : tie.Need-same-length
 same-length c = refl
 
 returns : tie.Need-returns
 unfolding rows if
-returns c = goes-step (c .before .before .before .before .before .before .before .pre .0) 501 Op.LDR (c .before .before .before .match .keys1) refl refl (c .ldr .ensures)
+returns c = goes-step (c .before .before .before .before .before .before .before .pre .0) 503 Op.ADR (c .before .before .before .match .keys1) refl refl (c .adr .ensures)
 
 same-length-2 : tie.Need-same-length-2
-same-length-2 c = c .before .before .str .kept .1 .1 .0
+same-length-2 c = refl
 
 returns-2 : tie.Need-returns-2
 unfolding rows if
-returns-2 c = goes-step (c .before .before .before .before .before .before .before .before .before .pre .0) 502 Op.STR (c .before .before .before .before .before .match .keys2) refl refl (c .before .before .str .ensures)
+returns-2 c = goes-step (c .before .before .before .before .before .before .before .pre .0) 504 Op.SBR (c .before .before .before .match .keys2) refl refl (c .sbr .ensures)
 
 same-length-3 : tie.Need-same-length-3
 same-length-3 c = refl
 
 returns-3 : tie.Need-returns-3
 unfolding rows if
-returns-3 c = goes-step (c .before .before .before .before .before .before .before .pre .0) 503 Op.ADR (c .before .before .before .match .keys3) refl refl (c .adr .ensures)
+returns-3 c = goes-step (c .before .before .before .before .before .before .before .pre .0) 505 Op.MLR (c .before .before .before .match .keys3) refl refl (c .mlr .ensures)
 
 same-length-4 : tie.Need-same-length-4
 same-length-4 c = refl
 
 returns-4 : tie.Need-returns-4
 unfolding rows if
-returns-4 c = goes-step (c .before .before .before .before .before .before .before .pre .0) 504 Op.SBR (c .before .before .before .match .keys4) refl refl (c .sbr .ensures)
-
-same-length-5 : tie.Need-same-length-5
-same-length-5 c = refl
+returns-4 c = goes-step (c .before .before .before .before .before .before .before .pre .0) 506 Op.DVR (c .before .before .before .match .keys4) refl refl (c .dvr .ensures)
 
 returns-5 : tie.Need-returns-5
 unfolding rows if
-returns-5 c = goes-step (c .before .before .before .before .before .before .before .pre .0) 505 Op.MLR (c .before .before .before .match .keys5) refl refl (c .mlr .ensures)
-
-same-length-6 : tie.Need-same-length-6
-same-length-6 c = refl
+returns-5 c = goes-step (c .before .before .before .before .before .before .pre .0) 509 Op.NGR (c .before .before .match .keys5) refl refl (c .ngr .ensures (c .before .before .before .before .before .before .args .m .now))
 
 returns-6 : tie.Need-returns-6
 unfolding rows if
-returns-6 c = goes-step (c .before .before .before .before .before .before .before .pre .0) 506 Op.DVR (c .before .before .before .match .keys6) refl refl (c .dvr .ensures)
+returns-6 c = forks-step (c .before .before .before .before .before .before .pre .0) 510 Op.REQ (c .before .before .match .keys6) refl refl (c .req .ensures (c .before .before .before .before .before .before .args .m .now))
 
 returns-7 : tie.Need-returns-7
 unfolding rows if
-returns-7 c = forks-step (c .before .before .before .before .before .before .pre .0) 507 Op.ROV (c .before .before .match .keys7) refl refl (c .rov .ensures (c .before .before .before .before .before .before .args .m .now))
+returns-7 c = forks-step (c .before .before .before .before .before .before .pre .0) 511 Op.RGE (c .before .before .match .keys7) refl refl (c .rge .ensures (c .before .before .before .before .before .before .args .m .now))
 
 returns-8 : tie.Need-returns-8
 unfolding rows if
-returns-8 c = forks-step (c .before .before .before .before .before .before .pre .0) 508 Op.RNO (c .before .before .match .keys8) refl refl (c .rno .ensures (c .before .before .before .before .before .before .args .m .now))
+returns-8 c = forks-step (c .before .before .before .before .before .before .pre .0) 512 Op.RGT (c .before .before .match .keys8) refl refl (c .rgt .ensures (c .before .before .before .before .before .before .args .m .now))
 
 returns-9 : tie.Need-returns-9
 unfolding rows if
-returns-9 c = goes-step (c .before .before .before .before .before .before .pre .0) 509 Op.NGR (c .before .before .match .keys9) refl refl (c .ngr .ensures (c .before .before .before .before .before .before .args .m .now))
+returns-9 c = forks-step (c .before .before .before .before .before .before .pre .0) 513 Op.RLE (c .before .before .match .keys9) refl refl (c .rle .ensures (c .before .before .before .before .before .before .args .m .now))
 
 returns-10 : tie.Need-returns-10
 unfolding rows if
-returns-10 c = forks-step (c .before .before .before .before .before .before .pre .0) 510 Op.REQ (c .before .before .match .keys10) refl refl (c .req .ensures (c .before .before .before .before .before .before .args .m .now))
+returns-10 c = forks-step (c .before .before .before .before .before .before .pre .0) 514 Op.RLT (c .before .before .match .keys10) refl refl (c .rlt .ensures (c .before .before .before .before .before .before .args .m .now))
 
 returns-11 : tie.Need-returns-11
 unfolding rows if
-returns-11 c = forks-step (c .before .before .before .before .before .before .pre .0) 511 Op.RGE (c .before .before .match .keys11) refl refl (c .rge .ensures (c .before .before .before .before .before .before .args .m .now))
+returns-11 c = forks-step (c .before .before .before .before .before .before .pre .0) 515 Op.RNE (c .before .before .match .keys11) refl refl (c .rne .ensures (c .before .before .before .before .before .before .args .m .now))
 
 returns-12 : tie.Need-returns-12
 unfolding rows if
-returns-12 c = forks-step (c .before .before .before .before .before .before .pre .0) 512 Op.RGT (c .before .before .match .keys12) refl refl (c .rgt .ensures (c .before .before .before .before .before .before .args .m .now))
+returns-12 c = goes-step (c .before .before .before .before .before .before .pre .0) 805 Op.ITR (c .before .before .match .keys12) refl refl (c .itr .ensures (c .before .before .before .before .before .before .args .m .now))
 
 returns-13 : tie.Need-returns-13
 unfolding rows if
-returns-13 c = forks-step (c .before .before .before .before .before .before .pre .0) 513 Op.RLE (c .before .before .match .keys13) refl refl (c .rle .ensures (c .before .before .before .before .before .before .args .m .now))
+returns-13 c = forks-step (c .before .before .before .before .before .before .pre .0) 806 Op.RTI (c .before .before .match .keys13) refl refl (c .rti .ensures (c .before .before .before .before .before .before .args .m .now))
 
 returns-14 : tie.Need-returns-14
-unfolding rows if
-returns-14 c = forks-step (c .before .before .before .before .before .before .pre .0) 514 Op.RLT (c .before .before .match .keys14) refl refl (c .rlt .ensures (c .before .before .before .before .before .before .args .m .now))
-
-returns-15 : tie.Need-returns-15
-unfolding rows if
-returns-15 c = forks-step (c .before .before .before .before .before .before .pre .0) 515 Op.RNE (c .before .before .match .keys15) refl refl (c .rne .ensures (c .before .before .before .before .before .before .args .m .now))
-
-returns-16 : tie.Need-returns-16
-unfolding rows if
-returns-16 c = goes-step (c .before .before .before .before .before .before .pre .0) 805 Op.ITR (c .before .before .match .keys16) refl refl (c .itr .ensures (c .before .before .before .before .before .before .args .m .now))
-
-returns-17 : tie.Need-returns-17
-unfolding rows if
-returns-17 c = forks-step (c .before .before .before .before .before .before .pre .0) 806 Op.RTI (c .before .before .match .keys17) refl refl (c .rti .ensures (c .before .before .before .before .before .before .args .m .now))
-
-returns-18 : tie.Need-returns-18
-returns-18 c = absurd (none-of _ realNumbers (c .match .rest) (c .before .before .before .before .pre .1))
+returns-14 c = absurd (none-of _ realNumbers (c .match .rest) (c .before .before .before .before .pre .1))
 
 pub real-step-spec : {M : Type 1} → statement M
 real-step-spec =
@@ -167,14 +132,10 @@ real-step-spec =
     (tie.spec
     mul-match
     shared-slice-read-match
-    ldr-requires
-    str-requires
     adr-requires
     sbr-requires
     mlr-requires
     dvr-requires
-    rov-requires
-    rno-requires
     ngr-requires
     req-requires
     rge-requires
@@ -192,9 +153,7 @@ real-step-spec =
     returns-3
     same-length-4
     returns-4
-    same-length-5
     returns-5
-    same-length-6
     returns-6
     returns-7
     returns-8
@@ -203,8 +162,4 @@ real-step-spec =
     returns-11
     returns-12
     returns-13
-    returns-14
-    returns-15
-    returns-16
-    returns-17
-    returns-18)
+    returns-14)

@@ -1,6 +1,6 @@
 -- `snap_core::layout::written_length` meets its contract.
 -- Assumes nothing.
-use mathlib.Core.Path.{ap, _∙_}
+use mathlib.Core.Path.{ap}
 use native.Mathlib.Omega.{arith}
 use Rattle.rules.specs.Snapshot.{Form}
 use borrow.Author.Needs.{needs}

@@ -2,7 +2,7 @@
 -- Assumes nothing.
 use mathlib.Core.Path.{_≡_, sym, _∙_}
 use mathlib.Core.Bool.{true}
-use borrow.Author.Tests.{le-leb, lt-leb, not-false, not-true}
+use borrow.Author.Tests.{lt-leb, not-false, not-true}
 use Rattle.rules.specs.Snapshot.{memoryIn, trailerOk}
 use Rattle.snap_core.proofs.Trailers.{and-no, and-yes, lengthTrue, trailer-inside, trailer-parts}
 use borrow.Author.Needs.{needs}
