@@ -5,19 +5,13 @@ ghost use Rattle.base.specs.Lists.{_at_, member};
 ghost use Rattle.exec_core.specs.Seen.{Running, openLinks, seen, stepSeen};
 ghost use Rattle.dispatch.specs.Reals.{realNumbers};
 use exec_core::Answer;
-use exec_reals::adr;
-use exec_reals::dvr;
+use exec_reals::arithmetic;
+use exec_reals::compare;
 use exec_reals::itr;
-use exec_reals::mlr;
 use exec_reals::ngr;
-use exec_reals::req;
-use exec_reals::rge;
-use exec_reals::rgt;
-use exec_reals::rle;
-use exec_reals::rlt;
-use exec_reals::rne;
 use exec_reals::rti;
-use exec_reals::sbr;
+use reals::Arithmetic;
+use reals::Comparison;
 
 // The links are lent to be read: no real operation changes them.
 pub fn real_step(
@@ -32,17 +26,17 @@ pub fn real_step(
     ensures { λ r. ⌜ seen r (now (z .exit)) (now (m .exit)) (openLinks (now (links .entry))) ≡ stepSeen (now (t .entry)) b (now (z .entry)) (now (m .entry)) (openLinks (now (links .entry))) ⌝ }
 {
     match t[b] {
-        503 => adr(t, b, m, z),
-        504 => sbr(t, b, m, z),
-        505 => mlr(t, b, m, z),
-        506 => dvr(t, b, m, z),
+        503 => arithmetic(t, b, m, z, Arithmetic::Sum),
+        504 => arithmetic(t, b, m, z, Arithmetic::Difference),
+        505 => arithmetic(t, b, m, z, Arithmetic::Product),
+        506 => arithmetic(t, b, m, z, Arithmetic::Quotient),
         509 => ngr(t, b, z),
-        510 => req(t, b, z),
-        511 => rge(t, b, z),
-        512 => rgt(t, b, z),
-        513 => rle(t, b, z),
-        514 => rlt(t, b, z),
-        515 => rne(t, b, z),
+        510 => compare(t, b, z, Comparison::Equal),
+        511 => compare(t, b, z, Comparison::NotLess),
+        512 => compare(t, b, z, Comparison::Greater),
+        513 => compare(t, b, z, Comparison::NotGreater),
+        514 => compare(t, b, z, Comparison::Less),
+        515 => compare(t, b, z, Comparison::NotEqual),
         805 => itr(t, b, z),
         806 => rti(t, b, z),
         _ => Answer::LOST,

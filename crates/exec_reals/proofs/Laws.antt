@@ -20,13 +20,18 @@ use Rattle.rules.specs.Operand.{Operand, address, spotOf, wordAt}
 use Rattle.exec_core.specs.declared.Spot.{Spot}
 use Rattle.exec_core.specs.declared.Spot.the-variants.{Word, Outside}
 use Rattle.exec_core.specs.Entry.{Sound, heldHere, steady}
-use Rattle.exec_core.specs.Views.{cellOf, wayOf, answered}
+use Rattle.exec_core.specs.Views.{cellOf, wayOf, answered, operandAt, effectAt, does, branches, onward}
 use Rattle.real_rules.specs.Real.{Real, tests, realOf, both, proper, Whole, within, beyond, raOf, wholeOf, settled}
 use Rattle.rules.specs.Pair.{words, missing, pairOf, loadsReal, storesPair, rtiOf}
 use Rattle.real_rules.proofs.Laws.{proper-both}
+use Rattle.reals.specs.declared.Arithmetic.{Arithmetic}
+use Rattle.reals.specs.declared.Arithmetic.the-variants.{Sum, Difference, Product, Quotient}
+use Rattle.reals.specs.declared.Comparison.{Comparison}
+use Rattle.reals.specs.declared.Comparison.the-variants.{Equal, NotLess, Greater, NotGreater, Less, NotEqual}
+use Rattle.reals.specs.Views.{onValues, withZero}
 use Rattle.exec_reals.specs.declared.Pair.{Pair}
 use Rattle.exec_reals.specs.declared.Pair.the-variants.{Words, Missing}
-use Rattle.exec_reals.specs.Pairs.{pairView}
+use Rattle.exec_reals.specs.Views.{pairView, computing, comparing}
 
 -- a real operand stands in memory
 held-at : (k j : ℕ) → heldHere j ≡ false → k ≡ j → heldHere k ≡ false
@@ -96,9 +101,37 @@ module _ (way : ℕ → ℕ) (z m : List ℕ) (o : Operand) (f : Real → Real) 
   load-words h k j = rw (← e, h) (ap (λ (l : List ℕ). shown (way 0) l m) (k ∙ ap (λ (q : Real). settled q z) j))
 
 -- the answer of an operation on what RA and a pair hold
-pub both-by : (f : Float → Float → Float) {x a b a′ b′ : Real} → x ≡ both f a b → a ≡ a′ → b ≡ b′ → x ≡ both f a′ b′
+both-by : (f : Float → Float → Float) {x a b a′ b′ : Real} → x ≡ both f a b → a ≡ a′ → b ≡ b′ → x ≡ both f a′ b′
 both-by f e p q = rw (p, q) at e
 
+-- the four operations that compute, as `doing` has them; the operand is missing, or got
+module _ (t : List ℕ) (b : ℕ) (z m : List ℕ) where
+  computes : (o : Arithmetic) → loadsReal z m (operandAt t (b + 1)) (both (onValues o) (raOf z)) ≡ effectAt t b 0 0 z m (computing o)
+  computes Sum = refl
+  computes Difference = refl
+  computes Product = refl
+  computes Quotient = refl
+
+  module _ (o : Arithmetic) {r : Pair} (e : pairView r ≡ pairOf z m (operandAt t (b + 1))) where
+    pub computes-missing : r ≡ Missing → shown (trapNumber badAddress) z m ≡ does t b 0 0 z m (computing o)
+    computes-missing h = load-missing (λ j. onward b) z m _ _ e h ∙ ap (answered (λ j. onward b) z m) (computes o)
+
+    pub computes-words : {v w : ℕ} {x a c : Real} {y : List ℕ} → r ≡ Words v w → y ≡ settled x z → x ≡ both (onValues o) a c → a ≡ raOf z → c ≡ realOf v w → shown (onward b) y m ≡ does t b 0 0 z m (computing o)
+    computes-words h k j p q = load-words (λ i. onward b) z m _ _ e h k (both-by (onValues o) j p q) ∙ ap (answered (λ i. onward b) z m) (computes o)
+
+-- the six that compare
+pub compares-so : (t : List ℕ) (b : ℕ) (z m : List ℕ) (o : Comparison) {r : ℕ} {h : Bool} {x : Real} → r ≡ wayOf t b (fork 1 h) → h ≡ tests (withZero o) x → x ≡ raOf z → shown r z m ≡ branches t b 0 0 z m (comparing o)
+compares-so t b z m o {r} e h k = rw (e, h, k) (go o)
+  where
+    go : (o : Comparison) → shown (wayOf t b (fork 1 (tests (withZero o) (raOf z)))) z m ≡ branches t b 0 0 z m (comparing o)
+    go Equal = refl
+    go NotLess = refl
+    go Greater = refl
+    go NotGreater = refl
+    go Less = refl
+    go NotEqual = refl
+
+-- what an operation answers is no NaN
 pub proper-by : (f : Float → Float → Float) {x : Real} (a b : Real) → x ≡ both f a b → T (proper x)
 proper-by f a b e = subst (λ (r : Real). T (proper r)) (sym e) (proper-both f a b)
 
@@ -126,7 +159,3 @@ way-on t b = refl
 pub way-none : (t : List ℕ) (b : ℕ) → (t at (b + 1) ≡ 6 → ⊥) → b + 72 ≡ wayOf t b 1
 unfolding wayOf if
 way-none t b h = rw (ne-eqb (t at (b + 1)) 6 h)
-
--- a test of what RA holds, as the code makes it
-pub told-by : (f : Float → Bool) (way : ℕ → ℕ) (z m : List ℕ) {r : ℕ} {b : Bool} (x : Real) → r ≡ way (fork 1 b) → b ≡ tests f x → x ≡ raOf z → shown r z m ≡ shown (way (fork 1 (tests f (raOf z)))) z m
-told-by f way z m x e h k = rw (e, h, k)

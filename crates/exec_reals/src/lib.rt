@@ -7,7 +7,7 @@ ghost use Rattle.rules.specs.Effect.{shown};
 ghost use Rattle.rules.specs.Pair.{pairOf};
 ghost use Rattle.exec_core.specs.Views.{does, branches, operandAt, AnyMem};
 ghost use Rattle.exec_core.specs.Entry.{Entry, readable, isPlace, steady, going};
-ghost use Rattle.exec_reals.specs.Pairs.{pairView};
+ghost use Rattle.exec_reals.specs.Views.{pairView, computing, comparing};
 use exec_branches::first_if;
 use exec_core::Answer;
 use exec_core::Spot;
@@ -17,6 +17,8 @@ use exec_core::operands::to_first;
 use exec_core::operands::word_at;
 use ops::constants::Machine;
 use ops::format::PLACE_KIND;
+use reals::Arithmetic;
+use reals::Comparison;
 use reals::Whole;
 use reals::ra;
 use reals::settle;
@@ -78,58 +80,16 @@ pub fn str(t: &[u32], b: usize, m: &mut [u32], z: &[u32; 16], c: usize) -> usize
     b + Answer::ON
 }
 
-// [M 5.3] ADR: RA := RA + operand one; on overflow RA stays and the flag is on
-pub fn adr(t: &[u32], b: usize, m: &[u32], z: &mut [u32; 16]) -> usize
+// [M 5.3] ADR, [M 5.4] SBR, [M 5.5] MLR, [M 5.6] DVR: RA := RA with operand one; on overflow, as by a zero divisor, RA stays and the flag is on
+pub fn arithmetic(t: &[u32], b: usize, m: &[u32], z: &mut [u32; 16], o: Arithmetic) -> usize
     requires { ⌜ Entry steady readable going (now t) b (now z) ⌝ }
-    ensures { λ r. ⌜ shown r (now (z .exit)) (now (m .entry)) ≡ does (now (t .entry)) b 0 0 (now (z .entry)) (now (m .entry)) Op.ADR ⌝ }
+    ensures { λ r. ⌜ shown r (now (z .exit)) (now (m .entry)) ≡ does (now (t .entry)) b 0 0 (now (z .entry)) (now (m .entry)) (computing o) ⌝ }
 {
     let p = load(t, b, m, z);
     let Pair::Words(v, w) = p else {
         return Answer::BAD_ADDRESS;
     };
-    let x = reals::add(ra(z), reals::real_of(v, w));
-    settle(z, x);
-    b + Answer::ON
-}
-
-// [M 5.4] SBR: RA := RA - operand one; on overflow RA stays and the flag is on
-pub fn sbr(t: &[u32], b: usize, m: &[u32], z: &mut [u32; 16]) -> usize
-    requires { ⌜ Entry steady readable going (now t) b (now z) ⌝ }
-    ensures { λ r. ⌜ shown r (now (z .exit)) (now (m .entry)) ≡ does (now (t .entry)) b 0 0 (now (z .entry)) (now (m .entry)) Op.SBR ⌝ }
-{
-    let p = load(t, b, m, z);
-    let Pair::Words(v, w) = p else {
-        return Answer::BAD_ADDRESS;
-    };
-    let x = reals::sub(ra(z), reals::real_of(v, w));
-    settle(z, x);
-    b + Answer::ON
-}
-
-// [M 5.5] MLR: RA := RA × operand one; on overflow RA stays and the flag is on
-pub fn mlr(t: &[u32], b: usize, m: &[u32], z: &mut [u32; 16]) -> usize
-    requires { ⌜ Entry steady readable going (now t) b (now z) ⌝ }
-    ensures { λ r. ⌜ shown r (now (z .exit)) (now (m .entry)) ≡ does (now (t .entry)) b 0 0 (now (z .entry)) (now (m .entry)) Op.MLR ⌝ }
-{
-    let p = load(t, b, m, z);
-    let Pair::Words(v, w) = p else {
-        return Answer::BAD_ADDRESS;
-    };
-    let x = reals::mul(ra(z), reals::real_of(v, w));
-    settle(z, x);
-    b + Answer::ON
-}
-
-// [M 5.6] DVR: RA := RA / operand one; on overflow, as by zero, RA stays and the flag is on
-pub fn dvr(t: &[u32], b: usize, m: &[u32], z: &mut [u32; 16]) -> usize
-    requires { ⌜ Entry steady readable going (now t) b (now z) ⌝ }
-    ensures { λ r. ⌜ shown r (now (z .exit)) (now (m .entry)) ≡ does (now (t .entry)) b 0 0 (now (z .entry)) (now (m .entry)) Op.DVR ⌝ }
-{
-    let p = load(t, b, m, z);
-    let Pair::Words(v, w) = p else {
-        return Answer::BAD_ADDRESS;
-    };
-    let x = reals::div(ra(z), reals::real_of(v, w));
+    let x = reals::compute(o, ra(z), reals::real_of(v, w));
     settle(z, x);
     b + Answer::ON
 }
@@ -160,52 +120,12 @@ pub fn ngr(t: &[u32], b: usize, z: &mut [u32; 16]) -> usize
     b + Answer::ON
 }
 
-// [M 5.10] REQ: to operand one if RA is 0
-pub fn req(t: &[u32], b: usize, z: &[u32; 16]) -> usize
+// [M 5.10] REQ, [M 5.11] RGE, [M 5.12] RGT, [M 5.13] RLE, [M 5.14] RLT, [M 5.15] RNE: to operand one if RA compares with 0 so
+pub fn compare(t: &[u32], b: usize, z: &[u32; 16], o: Comparison) -> usize
     requires { ⌜ Entry isPlace readable going (now t) b (now z) ⌝ }
-    ensures { λ r. ⌜ AnyMem (shown r (now (z .entry))) (λ m. branches (now (t .entry)) b 0 0 (now (z .entry)) m Op.REQ) ⌝ }
+    ensures { λ r. ⌜ AnyMem (shown r (now (z .entry))) (λ m. branches (now (t .entry)) b 0 0 (now (z .entry)) m (comparing o)) ⌝ }
 {
-    first_if(t, b, reals::at_zero(ra(z)))
-}
-
-// [M 5.11] RGE: to operand one if RA is not below 0
-pub fn rge(t: &[u32], b: usize, z: &[u32; 16]) -> usize
-    requires { ⌜ Entry isPlace readable going (now t) b (now z) ⌝ }
-    ensures { λ r. ⌜ AnyMem (shown r (now (z .entry))) (λ m. branches (now (t .entry)) b 0 0 (now (z .entry)) m Op.RGE) ⌝ }
-{
-    first_if(t, b, reals::not_below_zero(ra(z)))
-}
-
-// [M 5.12] RGT: to operand one if RA is above 0
-pub fn rgt(t: &[u32], b: usize, z: &[u32; 16]) -> usize
-    requires { ⌜ Entry isPlace readable going (now t) b (now z) ⌝ }
-    ensures { λ r. ⌜ AnyMem (shown r (now (z .entry))) (λ m. branches (now (t .entry)) b 0 0 (now (z .entry)) m Op.RGT) ⌝ }
-{
-    first_if(t, b, reals::above_zero(ra(z)))
-}
-
-// [M 5.13] RLE: to operand one if RA is not above 0
-pub fn rle(t: &[u32], b: usize, z: &[u32; 16]) -> usize
-    requires { ⌜ Entry isPlace readable going (now t) b (now z) ⌝ }
-    ensures { λ r. ⌜ AnyMem (shown r (now (z .entry))) (λ m. branches (now (t .entry)) b 0 0 (now (z .entry)) m Op.RLE) ⌝ }
-{
-    first_if(t, b, reals::not_above_zero(ra(z)))
-}
-
-// [M 5.14] RLT: to operand one if RA is below 0
-pub fn rlt(t: &[u32], b: usize, z: &[u32; 16]) -> usize
-    requires { ⌜ Entry isPlace readable going (now t) b (now z) ⌝ }
-    ensures { λ r. ⌜ AnyMem (shown r (now (z .entry))) (λ m. branches (now (t .entry)) b 0 0 (now (z .entry)) m Op.RLT) ⌝ }
-{
-    first_if(t, b, reals::below_zero(ra(z)))
-}
-
-// [M 5.15] RNE: to operand one if RA is not 0
-pub fn rne(t: &[u32], b: usize, z: &[u32; 16]) -> usize
-    requires { ⌜ Entry isPlace readable going (now t) b (now z) ⌝ }
-    ensures { λ r. ⌜ AnyMem (shown r (now (z .entry))) (λ m. branches (now (t .entry)) b 0 0 (now (z .entry)) m Op.RNE) ⌝ }
-{
-    first_if(t, b, reals::not_at_zero(ra(z)))
+    first_if(t, b, reals::compares(o, ra(z)))
 }
 
 // [M 8.5] ITR: RA := IA

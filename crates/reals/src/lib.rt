@@ -4,9 +4,9 @@ ghost use mathlib.Core.Bool.{not};
 ghost use Prim.Native.Nat.{_+_, _*_, _/_, _%_, _^_};
 ghost use lib.Dec.{T, leb};
 ghost use Rattle.base.specs.Test.{_and_};
-ghost use lib.Ieee.{binary64, isNan, add as plus, sub as minus, mul as times, div as over, lt, le, eq, ne};
+ghost use lib.Ieee.{isNan};
 ghost use Rattle.real_rules.specs.Real as R;
-ghost use Rattle.reals.specs.Views.{realView, wholeView};
+ghost use Rattle.reals.specs.Views.{realView, wholeView, onValues, withZero};
 use ops::constants::Machine;
 use words::SPAN;
 
@@ -30,6 +30,24 @@ const OF_WHOLE: u32 = 1075;
 pub enum Real {
     Finite(f64),
     Overflow,
+}
+
+// The operations on two values [M 5.3] to [M 5.6].
+pub enum Arithmetic {
+    Sum,
+    Difference,
+    Product,
+    Quotient,
+}
+
+// The comparisons of a value with zero [M 5.10] to [M 5.15].
+pub enum Comparison {
+    Equal,
+    NotLess,
+    Greater,
+    NotGreater,
+    Less,
+    NotEqual,
 }
 
 // The answer of RTI: the word that IA takes, or none.
@@ -85,22 +103,21 @@ fn answer(x: f64) -> Real
     Real::Overflow
 }
 
-// The sum.
-pub fn add(a: Real, b: Real) -> Real
-    ensures { λ r. ⌜ realView r ≡ R.both (plus binary64) (realView a) (realView b) ⌝ }
+// What an operation gives for two values.
+fn computed(o: Arithmetic, x: f64, y: f64) -> f64
+    ensures { λ r. ⌜ r ≡ onValues o x y ⌝ }
 {
-    let Real::Finite(x) = a else {
-        return Real::Overflow;
-    };
-    let Real::Finite(y) = b else {
-        return Real::Overflow;
-    };
-    answer(x + y)
+    match o {
+        Arithmetic::Sum => x + y,
+        Arithmetic::Difference => x - y,
+        Arithmetic::Product => x * y,
+        Arithmetic::Quotient => x / y,
+    }
 }
 
-// The difference.
-pub fn sub(a: Real, b: Real) -> Real
-    ensures { λ r. ⌜ realView r ≡ R.both (minus binary64) (realView a) (realView b) ⌝ }
+// An operation on two reals; a zero divisor gives overflow.
+pub fn compute(o: Arithmetic, a: Real, b: Real) -> Real
+    ensures { λ r. ⌜ realView r ≡ R.both (onValues o) (realView a) (realView b) ⌝ }
 {
     let Real::Finite(x) = a else {
         return Real::Overflow;
@@ -108,33 +125,7 @@ pub fn sub(a: Real, b: Real) -> Real
     let Real::Finite(y) = b else {
         return Real::Overflow;
     };
-    answer(x - y)
-}
-
-// The product.
-pub fn mul(a: Real, b: Real) -> Real
-    ensures { λ r. ⌜ realView r ≡ R.both (times binary64) (realView a) (realView b) ⌝ }
-{
-    let Real::Finite(x) = a else {
-        return Real::Overflow;
-    };
-    let Real::Finite(y) = b else {
-        return Real::Overflow;
-    };
-    answer(x * y)
-}
-
-// The quotient; a zero divisor gives overflow.
-pub fn div(a: Real, b: Real) -> Real
-    ensures { λ r. ⌜ realView r ≡ R.both (over binary64) (realView a) (realView b) ⌝ }
-{
-    let Real::Finite(x) = a else {
-        return Real::Overflow;
-    };
-    let Real::Finite(y) = b else {
-        return Real::Overflow;
-    };
-    answer(x / y)
+    answer(computed(o, x, y))
 }
 
 // The negation, which flips zero's sign too.
@@ -147,63 +138,20 @@ pub fn negate(a: Real) -> Real
     }
 }
 
-// Whether a value is below zero; overflow passes no test.
-pub fn below_zero(a: Real) -> bool
-    ensures { λ r. ⌜ r ≡ R.tests (λ x. lt x R.zeroReal) (realView a) ⌝ }
+// Whether a value compares with zero so; a zero of either sign is zero, and overflow passes no test.
+pub fn compares(o: Comparison, a: Real) -> bool
+    ensures { λ r. ⌜ r ≡ R.tests (withZero o) (realView a) ⌝ }
 {
-    match a {
-        Real::Finite(x) => x < 0.0,
-        Real::Overflow => false,
-    }
-}
-
-// Whether it is zero, of either sign.
-pub fn at_zero(a: Real) -> bool
-    ensures { λ r. ⌜ r ≡ R.tests (λ x. eq x R.zeroReal) (realView a) ⌝ }
-{
-    match a {
-        Real::Finite(x) => x == 0.0,
-        Real::Overflow => false,
-    }
-}
-
-// Whether it is above zero.
-pub fn above_zero(a: Real) -> bool
-    ensures { λ r. ⌜ r ≡ R.tests (λ x. lt R.zeroReal x) (realView a) ⌝ }
-{
-    match a {
-        Real::Finite(x) => x > 0.0,
-        Real::Overflow => false,
-    }
-}
-
-// Whether it is zero or above.
-pub fn not_below_zero(a: Real) -> bool
-    ensures { λ r. ⌜ r ≡ R.tests (λ x. le R.zeroReal x) (realView a) ⌝ }
-{
-    match a {
-        Real::Finite(x) => x >= 0.0,
-        Real::Overflow => false,
-    }
-}
-
-// Whether it is zero or below.
-pub fn not_above_zero(a: Real) -> bool
-    ensures { λ r. ⌜ r ≡ R.tests (λ x. le x R.zeroReal) (realView a) ⌝ }
-{
-    match a {
-        Real::Finite(x) => x <= 0.0,
-        Real::Overflow => false,
-    }
-}
-
-// Whether it is not zero.
-pub fn not_at_zero(a: Real) -> bool
-    ensures { λ r. ⌜ r ≡ R.tests (λ x. ne x R.zeroReal) (realView a) ⌝ }
-{
-    match a {
-        Real::Finite(x) => x != 0.0,
-        Real::Overflow => false,
+    let Real::Finite(x) = a else {
+        return false;
+    };
+    match o {
+        Comparison::Equal => x == 0.0,
+        Comparison::NotLess => x >= 0.0,
+        Comparison::Greater => x > 0.0,
+        Comparison::NotGreater => x <= 0.0,
+        Comparison::Less => x < 0.0,
+        Comparison::NotEqual => x != 0.0,
     }
 }
 

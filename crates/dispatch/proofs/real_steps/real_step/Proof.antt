@@ -20,38 +20,38 @@ mul-match c = omega (arith, ready-inside (ready (c .before .before .pre .0)))
 shared-slice-read-match : tie.Need-shared-slice-read-match
 shared-slice-read-match c = omega (arith, ready-inside (ready (c .before .before .before .pre .0)))
 
-adr-requires : tie.Need-adr-requires
-adr-requires c κs = entry-of steady readable going 503 reals.adr-takes (ready (c .before .before .before .before .before .before .pre .0)) (c .before .before .match .keys1)
+arithmetic-requires : tie.Need-arithmetic-requires
+arithmetic-requires c κs = entry-of steady readable going 503 reals.adr-takes (ready (c .before .before .before .before .before .before .pre .0)) (c .before .before .match .keys1)
 
-sbr-requires : tie.Need-sbr-requires
-sbr-requires c κs = entry-of steady readable going 504 reals.sbr-takes (ready (c .before .before .before .before .before .before .pre .0)) (c .before .before .match .keys2)
+arithmetic-requires-2 : tie.Need-arithmetic-requires-2
+arithmetic-requires-2 c κs = entry-of steady readable going 504 reals.sbr-takes (ready (c .before .before .before .before .before .before .pre .0)) (c .before .before .match .keys2)
 
-mlr-requires : tie.Need-mlr-requires
-mlr-requires c κs = entry-of steady readable going 505 reals.mlr-takes (ready (c .before .before .before .before .before .before .pre .0)) (c .before .before .match .keys3)
+arithmetic-requires-3 : tie.Need-arithmetic-requires-3
+arithmetic-requires-3 c κs = entry-of steady readable going 505 reals.mlr-takes (ready (c .before .before .before .before .before .before .pre .0)) (c .before .before .match .keys3)
 
-dvr-requires : tie.Need-dvr-requires
-dvr-requires c κs = entry-of steady readable going 506 reals.dvr-takes (ready (c .before .before .before .before .before .before .pre .0)) (c .before .before .match .keys4)
+arithmetic-requires-4 : tie.Need-arithmetic-requires-4
+arithmetic-requires-4 c κs = entry-of steady readable going 506 reals.dvr-takes (ready (c .before .before .before .before .before .before .pre .0)) (c .before .before .match .keys4)
 
 ngr-requires : tie.Need-ngr-requires
 ngr-requires c κs = entry-of readable readable going 509 reals.ngr-takes (ready (c .before .before .before .before .before .pre .0)) (c .before .match .keys5)
 
-req-requires : tie.Need-req-requires
-req-requires c κs = entry-of isPlace readable going 510 reals.req-takes (ready (c .before .before .before .before .before .pre .0)) (c .before .match .keys6)
+compare-requires : tie.Need-compare-requires
+compare-requires c κs = entry-of isPlace readable going 510 reals.req-takes (ready (c .before .before .before .before .before .pre .0)) (c .before .match .keys6)
 
-rge-requires : tie.Need-rge-requires
-rge-requires c κs = entry-of isPlace readable going 511 reals.rge-takes (ready (c .before .before .before .before .before .pre .0)) (c .before .match .keys7)
+compare-requires-2 : tie.Need-compare-requires-2
+compare-requires-2 c κs = entry-of isPlace readable going 511 reals.rge-takes (ready (c .before .before .before .before .before .pre .0)) (c .before .match .keys7)
 
-rgt-requires : tie.Need-rgt-requires
-rgt-requires c κs = entry-of isPlace readable going 512 reals.rgt-takes (ready (c .before .before .before .before .before .pre .0)) (c .before .match .keys8)
+compare-requires-3 : tie.Need-compare-requires-3
+compare-requires-3 c κs = entry-of isPlace readable going 512 reals.rgt-takes (ready (c .before .before .before .before .before .pre .0)) (c .before .match .keys8)
 
-rle-requires : tie.Need-rle-requires
-rle-requires c κs = entry-of isPlace readable going 513 reals.rle-takes (ready (c .before .before .before .before .before .pre .0)) (c .before .match .keys9)
+compare-requires-4 : tie.Need-compare-requires-4
+compare-requires-4 c κs = entry-of isPlace readable going 513 reals.rle-takes (ready (c .before .before .before .before .before .pre .0)) (c .before .match .keys9)
 
-rlt-requires : tie.Need-rlt-requires
-rlt-requires c κs = entry-of isPlace readable going 514 reals.rlt-takes (ready (c .before .before .before .before .before .pre .0)) (c .before .match .keys10)
+compare-requires-5 : tie.Need-compare-requires-5
+compare-requires-5 c κs = entry-of isPlace readable going 514 reals.rlt-takes (ready (c .before .before .before .before .before .pre .0)) (c .before .match .keys10)
 
-rne-requires : tie.Need-rne-requires
-rne-requires c κs = entry-of isPlace readable going 515 reals.rne-takes (ready (c .before .before .before .before .before .pre .0)) (c .before .match .keys11)
+compare-requires-6 : tie.Need-compare-requires-6
+compare-requires-6 c κs = entry-of isPlace readable going 515 reals.rne-takes (ready (c .before .before .before .before .before .pre .0)) (c .before .match .keys11)
 
 itr-requires : tie.Need-itr-requires
 itr-requires c κs = entry-of readable readable going 805 reals.itr-takes (ready (c .before .before .before .before .before .pre .0)) (c .before .match .keys12)
@@ -64,28 +64,28 @@ same-length c = refl
 
 returns : tie.Need-returns
 unfolding rows if
-returns c = goes-step (c .before .before .before .before .before .before .before .pre .0) 503 Op.ADR (c .before .before .before .match .keys1) refl refl (c .adr .ensures)
+returns c = goes-step (c .before .before .before .before .before .before .before .pre .0) 503 Op.ADR (c .before .before .before .match .keys1) refl refl (c .arithmetic .ensures)
 
 same-length-2 : tie.Need-same-length-2
 same-length-2 c = refl
 
 returns-2 : tie.Need-returns-2
 unfolding rows if
-returns-2 c = goes-step (c .before .before .before .before .before .before .before .pre .0) 504 Op.SBR (c .before .before .before .match .keys2) refl refl (c .sbr .ensures)
+returns-2 c = goes-step (c .before .before .before .before .before .before .before .pre .0) 504 Op.SBR (c .before .before .before .match .keys2) refl refl (c .arithmetic2 .ensures)
 
 same-length-3 : tie.Need-same-length-3
 same-length-3 c = refl
 
 returns-3 : tie.Need-returns-3
 unfolding rows if
-returns-3 c = goes-step (c .before .before .before .before .before .before .before .pre .0) 505 Op.MLR (c .before .before .before .match .keys3) refl refl (c .mlr .ensures)
+returns-3 c = goes-step (c .before .before .before .before .before .before .before .pre .0) 505 Op.MLR (c .before .before .before .match .keys3) refl refl (c .arithmetic3 .ensures)
 
 same-length-4 : tie.Need-same-length-4
 same-length-4 c = refl
 
 returns-4 : tie.Need-returns-4
 unfolding rows if
-returns-4 c = goes-step (c .before .before .before .before .before .before .before .pre .0) 506 Op.DVR (c .before .before .before .match .keys4) refl refl (c .dvr .ensures)
+returns-4 c = goes-step (c .before .before .before .before .before .before .before .pre .0) 506 Op.DVR (c .before .before .before .match .keys4) refl refl (c .arithmetic4 .ensures)
 
 returns-5 : tie.Need-returns-5
 unfolding rows if
@@ -93,27 +93,27 @@ returns-5 c = goes-step (c .before .before .before .before .before .before .pre 
 
 returns-6 : tie.Need-returns-6
 unfolding rows if
-returns-6 c = forks-step (c .before .before .before .before .before .before .pre .0) 510 Op.REQ (c .before .before .match .keys6) refl refl (c .req .ensures (c .before .before .before .before .before .before .args .m .now))
+returns-6 c = forks-step (c .before .before .before .before .before .before .pre .0) 510 Op.REQ (c .before .before .match .keys6) refl refl (c .compare .ensures (c .before .before .before .before .before .before .args .m .now))
 
 returns-7 : tie.Need-returns-7
 unfolding rows if
-returns-7 c = forks-step (c .before .before .before .before .before .before .pre .0) 511 Op.RGE (c .before .before .match .keys7) refl refl (c .rge .ensures (c .before .before .before .before .before .before .args .m .now))
+returns-7 c = forks-step (c .before .before .before .before .before .before .pre .0) 511 Op.RGE (c .before .before .match .keys7) refl refl (c .compare2 .ensures (c .before .before .before .before .before .before .args .m .now))
 
 returns-8 : tie.Need-returns-8
 unfolding rows if
-returns-8 c = forks-step (c .before .before .before .before .before .before .pre .0) 512 Op.RGT (c .before .before .match .keys8) refl refl (c .rgt .ensures (c .before .before .before .before .before .before .args .m .now))
+returns-8 c = forks-step (c .before .before .before .before .before .before .pre .0) 512 Op.RGT (c .before .before .match .keys8) refl refl (c .compare3 .ensures (c .before .before .before .before .before .before .args .m .now))
 
 returns-9 : tie.Need-returns-9
 unfolding rows if
-returns-9 c = forks-step (c .before .before .before .before .before .before .pre .0) 513 Op.RLE (c .before .before .match .keys9) refl refl (c .rle .ensures (c .before .before .before .before .before .before .args .m .now))
+returns-9 c = forks-step (c .before .before .before .before .before .before .pre .0) 513 Op.RLE (c .before .before .match .keys9) refl refl (c .compare4 .ensures (c .before .before .before .before .before .before .args .m .now))
 
 returns-10 : tie.Need-returns-10
 unfolding rows if
-returns-10 c = forks-step (c .before .before .before .before .before .before .pre .0) 514 Op.RLT (c .before .before .match .keys10) refl refl (c .rlt .ensures (c .before .before .before .before .before .before .args .m .now))
+returns-10 c = forks-step (c .before .before .before .before .before .before .pre .0) 514 Op.RLT (c .before .before .match .keys10) refl refl (c .compare5 .ensures (c .before .before .before .before .before .before .args .m .now))
 
 returns-11 : tie.Need-returns-11
 unfolding rows if
-returns-11 c = forks-step (c .before .before .before .before .before .before .pre .0) 515 Op.RNE (c .before .before .match .keys11) refl refl (c .rne .ensures (c .before .before .before .before .before .before .args .m .now))
+returns-11 c = forks-step (c .before .before .before .before .before .before .pre .0) 515 Op.RNE (c .before .before .match .keys11) refl refl (c .compare6 .ensures (c .before .before .before .before .before .before .args .m .now))
 
 returns-12 : tie.Need-returns-12
 unfolding rows if
@@ -132,17 +132,17 @@ real-step-spec =
     (tie.spec
     mul-match
     shared-slice-read-match
-    adr-requires
-    sbr-requires
-    mlr-requires
-    dvr-requires
+    arithmetic-requires
+    arithmetic-requires-2
+    arithmetic-requires-3
+    arithmetic-requires-4
     ngr-requires
-    req-requires
-    rge-requires
-    rgt-requires
-    rle-requires
-    rlt-requires
-    rne-requires
+    compare-requires
+    compare-requires-2
+    compare-requires-3
+    compare-requires-4
+    compare-requires-5
+    compare-requires-6
     itr-requires
     rti-requires
     same-length
