@@ -1,6 +1,5 @@
 // The operand of a DRC card: a text as a real number, and its two words [M 11.3] [02 Wish 5].
 ghost use mathlib.Core.Path.{_≡_};
-ghost use mathlib.Core.List.{[], _∷_};
 ghost use Prim.Native.Nat.{_^_, _≤_};
 ghost use Rattle.asm_types.specs.Views.{cutParsed, parsedView};
 ghost use Rattle.real_rules.specs.Real as Real;

@@ -100,10 +100,6 @@ module _ (way : ℕ → ℕ) (z m : List ℕ) (o : Operand) (f : Real → Real) 
   unfolding loadsReal
   load-words h k j = rw (← e, h) (ap (λ (l : List ℕ). shown (way 0) l m) (k ∙ ap (λ (q : Real). settled q z) j))
 
--- the answer of an operation on what RA and a pair hold
-both-by : (f : Float → Float → Float) {x a b a′ b′ : Real} → x ≡ both f a b → a ≡ a′ → b ≡ b′ → x ≡ both f a′ b′
-both-by f e p q = rw (p, q) at e
-
 -- the four operations that compute, as `doing` has them; the operand is missing, or got
 module _ (t : List ℕ) (b : ℕ) (z m : List ℕ) where
   computes : (o : Arithmetic) → loadsReal z m (operandAt t (b + 1)) (both (onValues o) (raOf z)) ≡ effectAt t b 0 0 z m (computing o)
@@ -117,7 +113,7 @@ module _ (t : List ℕ) (b : ℕ) (z m : List ℕ) where
     computes-missing h = load-missing (λ j. onward b) z m _ _ e h ∙ ap (answered (λ j. onward b) z m) (computes o)
 
     pub computes-words : {v w : ℕ} {x a c : Real} {y : List ℕ} → r ≡ Words v w → y ≡ settled x z → x ≡ both (onValues o) a c → a ≡ raOf z → c ≡ realOf v w → shown (onward b) y m ≡ does t b 0 0 z m (computing o)
-    computes-words h k j p q = load-words (λ i. onward b) z m _ _ e h k (both-by (onValues o) j p q) ∙ ap (answered (λ i. onward b) z m) (computes o)
+    computes-words h k j p q = load-words (λ i. onward b) z m _ _ e h k (rw (p, q) at j) ∙ ap (answered (λ i. onward b) z m) (computes o)
 
 -- the six that compare
 pub compares-so : (t : List ℕ) (b : ℕ) (z m : List ℕ) (o : Comparison) {r : ℕ} {h : Bool} {x : Real} → r ≡ wayOf t b (fork 1 h) → h ≡ tests (withZero o) x → x ≡ raOf z → shown r z m ≡ branches t b 0 0 z m (comparing o)

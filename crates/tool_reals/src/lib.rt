@@ -2,7 +2,6 @@
 ghost use Prim.Native.Nat.{_<_, _≤_};
 ghost use Rattle.io.specs.Counts.{Counts};
 use console::page::put;
-use console::page::put_number;
 use io::decimal;
 use tool_forms::put_form;
 
