@@ -9,7 +9,7 @@ use states::State;
 use tables::check_table;
 
 // What the checks find: both pass, or the first that fails.
-#[derive(Drop)]
+#[derive(Clone, Copy)]
 pub enum Admission {
     Granted,
     BadTable,

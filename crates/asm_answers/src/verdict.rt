@@ -2,7 +2,7 @@
 ghost use Rattle.asm_answers.specs.Verdicts.{VerdictOf};
 
 // No line has a fault, or the first that has one: its number, 1 to 7, and the line, the first being 1.
-#[derive(Drop)]
+#[derive(Clone, Copy)]
 pub enum Verdict {
     Clear,
     Broken(u32, u32),

@@ -15,7 +15,7 @@ use asm_types::Reader;
 use ops::table::Operations;
 
 // What a text holds: its label fields, the numbers of its header, and whether END closes section 6.
-#[derive(Drop)]
+#[derive(Clone, Copy)]
 pub struct Collected {
     pub labels: usize,
     pub size: u32,

@@ -16,7 +16,7 @@ use asm_cards::{
 use asm_types::Card;
 
 // The counts of some cards, and whether an END of section 6 is one of them.
-#[derive(Drop)]
+#[derive(Clone, Copy)]
 pub struct Counts {
     pub size: u32,
     pub constants: u32,

@@ -20,7 +20,7 @@ use ops::table::Operations;
 const SECTION_4: u32 = 5;
 
 // The parts of a table behind its header.
-#[derive(Drop)]
+#[derive(Clone, Copy)]
 pub enum Part {
     Entries,
     Fresh,

@@ -11,7 +11,7 @@ use asm_text::find_byte;
 use asm_types::{Displaced, Form, Parsed, Term, Terms};
 
 // A number or a symbol; or the text is neither.
-#[derive(Drop)]
+#[derive(Clone, Copy)]
 pub enum Value {
     Is(Term),
     Not,

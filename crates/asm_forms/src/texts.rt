@@ -146,7 +146,7 @@ pub fn has_remark(s: &[u8]) -> bool
 }
 
 // A part of a line.
-#[derive(Drop)]
+#[derive(Clone, Copy)]
 pub struct Span {
     pub from: usize,
     pub to: usize,

@@ -7,14 +7,14 @@ ghost use Rattle.asm_reader.specs.Line.{line_behind, line_end, step_at};
 use asm_text::{NEWLINE, find_byte};
 
 // The text, and the place where the next line begins.
-#[derive(Drop)]
+#[derive(Clone, Copy)]
 pub struct CardReader<'a> {
     pub text: &'a [u8],
     pub at: usize,
 }
 
 // What comes next: a line from `start` up to `end`, or the end of the text.
-#[derive(Drop)]
+#[derive(Clone, Copy)]
 pub enum Step {
     Line { start: usize, end: usize },
     End,

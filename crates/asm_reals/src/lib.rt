@@ -21,7 +21,7 @@ const POWERS: [u64; 7] = [1, 10, 100, 1000, 10000, 100000, 1000000];
 const SPAN: u64 = 1 << 32;
 
 // What a text says: negative or not, the whole number of all digits, and how many of them stand after the point; or it has another form.
-#[derive(Drop)]
+#[derive(Clone, Copy)]
 pub enum Decimal {
     Written(bool, u64, usize),
     Malformed,

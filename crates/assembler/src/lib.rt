@@ -33,7 +33,7 @@ const TABLE_WORDS: usize = 180240;
 const PLACES: usize = 16386;
 
 // A line's fault: its number, 1 to 7, and the line, the first being 1.
-#[derive(Drop)]
+#[derive(Clone, Copy)]
 pub struct Fault {
     pub number: u32,
     pub line: u32,
@@ -41,7 +41,7 @@ pub struct Fault {
 
 // The table's length; or the text is too long (9), a line has a fault (1 to 7), something is missing (8), a limit is passed (9), the
 // room is short (10) [S Numbers the host sees].
-#[derive(Drop)]
+#[derive(Clone, Copy)]
 pub enum Assembled {
     Done(u32),
     LongText,

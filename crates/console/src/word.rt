@@ -10,7 +10,7 @@ use asm_text::is_digit;
 const MOST_WORD: u64 = 4294967295;
 
 // A word, or none.
-#[derive(Drop)]
+#[derive(Clone, Copy)]
 pub enum Word {
     Is(u32),
     Not,

@@ -20,7 +20,7 @@ use ops::constants::Machine;
 const HALF: u32 = 1 << Machine::CFP_N - 1;
 
 // What both operands hold.
-#[derive(Drop)]
+#[derive(Clone, Copy)]
 pub enum Both {
     Words(u32, u32),
     Neither,

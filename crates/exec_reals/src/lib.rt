@@ -16,7 +16,7 @@ use ops::format::PLACE_KIND;
 use reals::{Arithmetic, Comparison, Whole, ra, settle};
 
 // Two words of memory.
-#[derive(Drop)]
+#[derive(Clone, Copy)]
 pub enum Pair {
     Words(u32, u32),
     Missing,

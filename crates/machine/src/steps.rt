@@ -9,7 +9,7 @@ use exec_core::Answer;
 use resuming::answers::USED;
 
 // Where a run halts: the number of its ending, the offset of the entry that it stands at, and what is left of its budget.
-#[derive(Drop)]
+#[derive(Clone, Copy)]
 pub struct Halted {
     pub how: usize,
     pub b: usize,

@@ -25,14 +25,14 @@ const OF_SPAN: u32 = 1055;
 const OF_WHOLE: u32 = 1075;
 
 // The answer of a real operation.
-#[derive(Drop)]
+#[derive(Clone, Copy)]
 pub enum Real {
     Finite(f64),
     Overflow,
 }
 
 // The operations on two values [M 5.3] to [M 5.6].
-#[derive(Drop)]
+#[derive(Clone, Copy)]
 pub enum Arithmetic {
     Sum,
     Difference,
@@ -41,7 +41,7 @@ pub enum Arithmetic {
 }
 
 // The comparisons of a value with zero [M 5.10] to [M 5.15].
-#[derive(Drop)]
+#[derive(Clone, Copy)]
 pub enum Comparison {
     Equal,
     NotLess,
@@ -52,7 +52,7 @@ pub enum Comparison {
 }
 
 // The answer of RTI: the word that IA takes, or none.
-#[derive(Drop)]
+#[derive(Clone, Copy)]
 pub enum Whole {
     Within(u32),
     Beyond,

@@ -8,7 +8,7 @@ use states::State;
 
 // How a run or a resume ends: a resume that goes on, waiting at the JSR of an EXP, budget used, or stopped by 22 to 29; or why it is
 // refused, by 30 to 33.
-#[derive(Drop)]
+#[derive(Clone, Copy)]
 pub enum Answer {
     Resumed,
     Waits,
@@ -73,7 +73,7 @@ pub fn ending(how: usize) -> Answer
 }
 
 // The answer of a run, the steps that it took, and the state that it leaves beside its memory; a refusal's state is the one that was lent.
-#[derive(Drop)]
+#[derive(Clone, Copy)]
 pub struct Ran {
     pub answer: Answer,
     pub steps: u32,

@@ -11,7 +11,7 @@ use exec_core::Answer as Code;
 use states::State;
 
 // The answer of a resume, and the state that it leaves; it takes no step and changes no memory. A refusal's state is the one that was lent.
-#[derive(Drop)]
+#[derive(Clone, Copy)]
 pub struct Resumed {
     pub answer: Answer,
     pub state: State,

@@ -47,7 +47,7 @@ pub fn exit_list(
 }
 
 // How many exits the callee of a JSR declares, or that it names none.
-#[derive(Drop)]
+#[derive(Clone, Copy)]
 pub enum Exits {
     Count(u32),
     Unnamed,

@@ -1,5 +1,5 @@
 // What a test that may give up found: it holds, it does not, or it is open.
-#[derive(Drop)]
+#[derive(Clone, Copy)]
 pub enum Finding {
     Holds,
     Fails,

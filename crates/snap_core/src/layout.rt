@@ -12,7 +12,7 @@ pub const TRAILER: usize = 16 * WORD;
 pub const REALS: usize = 3;
 
 // The form of a file: how many words its trailer has before the build number.
-#[derive(Drop)]
+#[derive(Clone, Copy)]
 pub struct Form {
     pub reals: usize,
 }

@@ -12,7 +12,7 @@ use snap_core::trailer::{MEMORY, memory_from, same_program, trailer_ok, trailer_
 use states::State;
 
 // What restore answers: a machine is woken, or why not, with the numbers 30, 40, 41, 42, 43, 44.
-#[derive(Drop)]
+#[derive(Clone, Copy)]
 pub enum Answer {
     Woken,
     BadTable,
@@ -24,7 +24,7 @@ pub enum Answer {
 }
 
 // The answer, and the woken state beside its memory; a refusal's state is blank.
-#[derive(Drop)]
+#[derive(Clone, Copy)]
 pub struct Restored {
     pub answer: Answer,
     pub state: State,

@@ -17,7 +17,7 @@ use state_check::passing::state_ok;
 use states::{State, bit};
 
 // What the writer answers: the length L of the file, or why there is none, with the numbers 30, 31, 45.
-#[derive(Drop)]
+#[derive(Clone, Copy)]
 pub enum Written {
     Filled(usize),
     BadTable,

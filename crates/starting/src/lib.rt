@@ -12,14 +12,14 @@ use states::State;
 use tables::check_table;
 
 // The two starts. The plain one leaves zeros behind the program's own words, the warm one what was lent.
-#[derive(Drop)]
+#[derive(Clone, Copy)]
 pub enum Mode {
     Plain,
     Warm,
 }
 
 // What a start answers: the program has begun, or why not, with the numbers 0, 30, 10, 43.
-#[derive(Drop)]
+#[derive(Clone, Copy)]
 pub enum Answer {
     Begun,
     BadTable,
@@ -28,7 +28,7 @@ pub enum Answer {
 }
 
 // The answer, and the state beside its memory; a refusal's state is blank.
-#[derive(Drop)]
+#[derive(Clone, Copy)]
 pub struct Started {
     pub answer: Answer,
     pub state: State,

@@ -12,7 +12,7 @@ use ops::constants::Machine;
 // The state beside its memory: the registers, IA's 32 bits, the overflow flag, the place, whether it waits at the JSR of an EXP,
 // how many links are open, the links' places, oldest first, RA's two words and its flag. Links from count on are not looked at. RA is words and no
 // float, which could be a NaN; a state that passes its check has a finite RA and a real flag of 0 or 1 [02 Wish 5].
-#[derive(Drop)]
+#[derive(Clone, Copy)]
 pub struct State {
     pub xl: u32,
     pub xr: u32,

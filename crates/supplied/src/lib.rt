@@ -5,7 +5,7 @@ ghost use Rattle.supplied.specs.Supplied.{packed_name, supplied_of, supplies, su
 use ops::constants::Machine;
 
 // What a name is: the value that the machine supplies, or none.
-#[derive(Drop)]
+#[derive(Clone, Copy)]
 pub enum Supplied {
     Value(u32),
     Absent,

@@ -8,7 +8,7 @@ use tool_files::tell;
 use tool_forms::{say, warn};
 
 // What is asked for; nothing where that is done already: help, or what was told.
-#[derive(Drop)]
+#[derive(Clone, Copy)]
 pub enum Task {
     Nothing,
     Assemble,

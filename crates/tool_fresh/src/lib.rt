@@ -11,7 +11,7 @@ use words::word_of;
 const FRESH: usize = 3;
 
 // Where the fresh words come from: there are none, the system's, the arguments', or they were refused, which is told.
-#[derive(Drop)]
+#[derive(Clone, Copy)]
 pub enum Supply {
     Nothing,
     System,

@@ -42,7 +42,7 @@ const SMALL: usize = UNIT - 5;
 const LARGE: usize = UNIT + SHOWN;
 
 // The digits that are shown, as a number, and the order of the first.
-#[derive(Drop)]
+#[derive(Clone, Copy)]
 struct Short {
     digits: u64,
     order: usize,
