@@ -1,5 +1,7 @@
 // The accumulator IA: what it and the overflow flag take as a result, the word that MFI stores, and the decimal digits that CVM and CVD convert.
 // z are the words of the registers, IA and the flag among them; operands and memory are read elsewhere.
+#![tactic(auto)]
+
 ghost use Rattle.std.specs.Prelude.{◌≡◌, false, ◌+◌, ◌-◌, ◌≤◌, ltb, leb, pos, neg_ℤ, ◌-ℤ◌, ◌*ℤ◌};
 ghost use Rattle.std.specs.Int.Signed.{rem_z};
 ghost use Rattle.base.specs.Test.{if, ◌or◌};

@@ -1,4 +1,6 @@
 // The checks that every call of the host begins with: of the table, then of the state [S Numbers the host sees].
+#![tactic(auto)]
+
 ghost use Rattle.std.specs.Prelude.{◌≡◌, List, ℕ, length};
 ghost use Rattle.admission.specs.Admit.{verdict_of};
 ghost use Rattle.rules.specs.Run.{admitted};

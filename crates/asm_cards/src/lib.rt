@@ -1,4 +1,6 @@
 // The card of a line, and where the reader stands past it [S Cards].
+#![tactic(auto)]
+
 ghost use Rattle.std.specs.Prelude.{◌≡◌, Bool, map, ◌+◌, ◌≤◌, eqb, length};
 ghost use Rattle.base.specs.Test.{◌and◌};
 ghost use Rattle.base.specs.Lists.{◌at◌};

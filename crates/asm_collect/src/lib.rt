@@ -1,4 +1,6 @@
 // The first pass over a text: its symbols, the numbers of its table's header, and whether END closes it [S Cards] [S The table].
+#![tactic(auto)]
+
 ghost use Rattle.std.specs.Prelude.{◌≡◌, map, ◌≤◌, length};
 ghost use Rattle.ops.specs.Ops.{rows, cells_of};
 ghost use Rattle.language.specs.Text.{max_bytes};

@@ -1,4 +1,6 @@
 // The faults of a line, 1 to 7: the smallest number of a condition that its card breaks [S Numbers the host sees].
+#![tactic(auto)]
+
 ghost use Rattle.std.specs.Prelude.{◌≡◌, map};
 ghost use Rattle.ops.specs.Ops.{rows, cells_of};
 ghost use Rattle.asm_types.specs.Views.{card_view, symbols_in};

@@ -1,4 +1,6 @@
 // The number of each answer of the assembler, in the upper half of a u64, with the length or the line in the lower [S Numbers the host sees].
+#![tactic(auto)]
+
 ghost use Rattle.std.specs.Prelude.{◌≡◌, ◌+◌};
 ghost use Rattle.assembler.specs.Answers.{answer_view};
 ghost use Rattle.asm_numbers.specs.Numbers.{assembled_number};

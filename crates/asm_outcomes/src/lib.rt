@@ -1,4 +1,6 @@
 // The operands of a card: the forms that it writes, and what each gives in its format [M section 7] [S Cards].
+#![tactic(auto)]
+
 ghost use Rattle.std.specs.Prelude.{◌≡◌, map, ◌<◌, get_or, length};
 ghost use Rattle.ops.specs.Ops.{rows, cells_of};
 ghost use Rattle.language.specs.Text.{field_of};

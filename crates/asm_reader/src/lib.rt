@@ -1,6 +1,8 @@
 // A reader of cards: it holds the text and its place, and gives the lines one after the other [S Cards]. A line ends at byte 10, and the last may lack it.
 // The work is done by functions on a slice and a number; those over the reader take it apart and call them. `line_at`, `line_behind` and `line_end` have plain
 // parameters and go through the reader, so whoever calls them has a reader's answer without one.
+#![tactic(auto)]
+
 ghost use Rattle.std.specs.Prelude.{◌≡◌, ◌≤◌, length};
 ghost use Rattle.asm_reader.specs.Line.{line_behind, line_end, step_at};
 

@@ -1,4 +1,6 @@
 // The operand of a DRC card: a text as a real number, and its two words [M 11.3] [02 Wish 5].
+#![tactic(auto)]
+
 ghost use Rattle.std.specs.Prelude.{◌≡◌, ◌^◌, ◌≤◌};
 ghost use Rattle.asm_types.specs.Views.{cut_parsed, parsed_view};
 ghost use Rattle.real_rules.specs.Real as Real;

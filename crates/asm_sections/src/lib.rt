@@ -1,4 +1,6 @@
 // The operations of cards by their codes: which are skipped, divide the deck or define one word, and the sections in which each stands [S Cards].
+#![tactic(auto)]
+
 ghost use Rattle.std.specs.Prelude.{◌≡◌};
 ghost use Rattle.language.specs.Text.{between};
 ghost use Rattle.language.specs.Operation.{is_divider, is_skipped, of_section};

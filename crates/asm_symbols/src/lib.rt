@@ -1,4 +1,6 @@
 // Symbols of a deck: what a name means, which fields are one use, and one symbol more [S Cards] [S 3].
+#![tactic(auto)]
+
 pub mod fields;
 pub mod meanings;
 pub mod uses;

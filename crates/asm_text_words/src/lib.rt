@@ -1,4 +1,6 @@
 // A word of a DTC's text: four characters, 0 past the end [S Cards].
+#![tactic(auto)]
+
 ghost use Rattle.std.specs.Prelude.{◌≡◌, ◌+◌, ◌<◌, length};
 ghost use Rattle.base.specs.Lists.{◌at◌};
 ghost use Rattle.words.specs.Words.{word_of};

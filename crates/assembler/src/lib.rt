@@ -1,4 +1,6 @@
 // The assembler: cards become a table, or the text is refused and no lent word changes [S Cards] [S The table].
+#![tactic(auto)]
+
 ghost use Rattle.std.specs.Prelude.{◌≡◌, ◌≤◌, length};
 ghost use Rattle.language.specs.Text.{max_bytes};
 ghost use Rattle.language.specs.Fault.{deck_of};

@@ -1,4 +1,6 @@
 // Characters in memory, which lie four to a word, the lowest address in the word's lowest byte.
+#![tactic(auto)]
+
 ghost use Rattle.std.specs.Prelude.{◌≡◌, ◌<◌, ◌≤◌, ◌+◌, ◌%◌, length};
 ghost use Rattle.base.specs.Test.{◌and◌};
 ghost use Rattle.ops.specs.Machine.{cfp_a, cfp_b, max_memory};

@@ -1,4 +1,6 @@
 // Characters and words copied in memory, the lowest first, so that a copy sees what it has changed so far.
+#![tactic(auto)]
+
 ghost use Rattle.std.specs.Prelude.{◌≡◌, ◌<◌, ◌≤◌, ◌+◌, ◌*◌, ◌%◌, length};
 ghost use Rattle.ops.specs.Machine.{cfp_b, max_memory};
 ghost use Rattle.rules.specs.Exec.{copied_chars, copied_words};

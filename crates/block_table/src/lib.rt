@@ -1,6 +1,8 @@
 // Words of memory translated by a table of 256 characters that lies elsewhere in memory.
 // Few words are looked up in memory. For many, four lists of the table's characters are made first, each with the characters at their place in a
 // word, so that a look takes no division and no shift and a word is the sum of four.
+#![tactic(auto)]
+
 ghost use Rattle.std.specs.Prelude.{◌≡◌, ◌<◌, ◌≤◌, ◌+◌, ◌*◌, ◌^◌, length};
 ghost use Rattle.base.specs.Lists.{◌at◌};
 ghost use Rattle.ops.specs.Machine.{cfp_a, cfp_b, cfp_c, max_memory};

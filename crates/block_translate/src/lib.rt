@@ -1,6 +1,8 @@
 // Characters translated in memory, the lowest first, by a table of 256 characters that lies in memory too.
 // Where the string and the table are apart, whole words are translated.
 // Where they meet, the characters in the table go one by one, since each may change what is looked up next; those before and after it go by words.
+#![tactic(auto)]
+
 ghost use Rattle.std.specs.Prelude.{◌≡◌, true, ◌<◌, ◌≤◌, ◌+◌, ◌-◌, ◌^◌, min, length};
 ghost use Rattle.ops.specs.Machine.{cfp_a, max_memory};
 ghost use Rattle.rules.specs.Exec.{translated};

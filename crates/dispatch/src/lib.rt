@@ -1,6 +1,8 @@
 // One step: the operation that stands at the entry b, by its number, 100 × section + item of [M section 8].
 // One flat match, and each operation called from here alone: so the compiler makes one jump table and folds every operation into the loop. Of the
 // reals only loads, stores and the tests of the flag are; the others go by a function of their own, which is called from three arms and so stays one.
+#![tactic(auto)]
+
 ghost use Rattle.std.specs.Prelude.{◌≡◌, length};
 ghost use Rattle.exec_core.specs.Seen.{seen, open_links, step_seen, Running};
 

@@ -1,5 +1,7 @@
 // Bits and conversions: ANB, ORB, XOB, CMB, RSH, LSH, RSX, LSX, WTB, BTW, CTW, CTB, WTC, and CSC, ZGB, BTC, which do nothing.
 // Each answers 64 + the offset of the next entry, or 22, which leaves the registers as they were.
+#![tactic(auto)]
+
 ghost use Rattle.std.specs.Prelude.{◌≡◌, ◌≤◌, ◌+◌, length};
 ghost use Rattle.base.specs.Lists.{◌at◌};
 ghost use Rattle.ops.specs.Machine.{max_instrs};

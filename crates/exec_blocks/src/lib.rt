@@ -1,5 +1,7 @@
 // Blocks of memory: CMC, TRC, MVC, MVW. XL and XR are the addresses and WA is the length, in bytes.
 // Each answers 64 + the offset of the next entry or of the place that it branches to, or 22 or 23, which leave registers and memory as they were.
+#![tactic(auto)]
+
 ghost use Rattle.std.specs.Prelude.{◌≡◌, ◌≤◌, ◌+◌, length};
 ghost use Rattle.base.specs.Test.{◌and◌};
 ghost use Rattle.base.specs.Lists.{◌at◌};

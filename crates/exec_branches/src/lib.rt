@@ -1,5 +1,7 @@
 // Branches: BEQ to BHI, BNZ, BZE, BCT, CEQ, CNE, NZB, ZRB, and the tests of IA and its flag.
 // Each answers 64 + the offset of the next entry or of the place that it branches to, or 22, which leaves the registers as they were.
+#![tactic(auto)]
+
 ghost use Rattle.std.specs.Prelude.{◌≡◌, ◌<◌, ◌≤◌, ◌+◌, length};
 ghost use Rattle.base.specs.Lists.{◌at◌};
 ghost use Rattle.ops.specs.Machine.{max_instrs};

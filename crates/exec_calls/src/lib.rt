@@ -1,6 +1,8 @@
 // Calls and their exits [M section 1]: JSR, EXI, SSS, and the exit that a JSR's callee takes.
 // Each answers 64 + the offset of the next entry, 20 at the JSR of an EXP, or the number of a trap, which leaves all as it was.
 // The lent links are the places of the open calls, oldest first, and behind the room for 256 of them their count.
+#![tactic(auto)]
+
 ghost use Rattle.std.specs.Prelude.{◌≡◌, ◌≤◌, length};
 ghost use Rattle.base.specs.Lists.{◌at◌};
 ghost use Rattle.ops.specs.Class as Class;

@@ -1,5 +1,7 @@
 // Characters: PLC, PSC, LCH, SCH. A character is a byte of memory, and a string's first one comes CFP$F bytes past its address.
 // Each answers 64 + the offset of the next entry, or 22 or 23, which leave registers and memory as they were.
+#![tactic(auto)]
+
 ghost use Rattle.std.specs.Prelude.{◌≡◌};
 ghost use Rattle.ops.specs.Ops as Op;
 ghost use Rattle.rules.specs.Effect.{shown};

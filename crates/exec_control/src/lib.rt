@@ -1,5 +1,7 @@
 // Control without calls: branches, entries, the switch [M section 1], and the stack's check [M 10.1].
 // Each answers 64 + the offset of the next entry, or the number of a trap, which leaves all as it was.
+#![tactic(auto)]
+
 ghost use Rattle.std.specs.Prelude.{◌≡◌, length};
 ghost use Rattle.base.specs.Test.{Ok};
 ghost use Rattle.base.specs.Lists.{◌at◌};

@@ -1,5 +1,7 @@
 // Integers: LDI, ADI, MLI, SBI, DVI, RMI, STI, NGI, MTI, MFI, CVM, CVD. The accumulator IA and the overflow flag are words of z.
 // Each answers 64 + the offset of the next entry, or 22, 23 or 29, which leave registers and memory as they were.
+#![tactic(auto)]
+
 ghost use Rattle.std.specs.Prelude.{◌≡◌, ◌+◌, ◌≤◌, leb, length};
 ghost use Rattle.base.specs.Test.{if};
 ghost use Rattle.ops.specs.Machine.{cfp_m, max_instrs};

@@ -1,5 +1,7 @@
 // Moves and arithmetic on words: MOV, ICV, DCV, ZER, MNZ, SSL, ADD, SUB, ICA, DCA, LCT, AOV.
 // Each answers 64 + the offset of the next entry, or 22 or 23, which leave registers and memory as they were.
+#![tactic(auto)]
+
 ghost use Rattle.std.specs.Prelude.{◌≡◌, ◌<◌, ◌≤◌, ◌+◌, length, ltb};
 ghost use Rattle.base.specs.Lists.{◌at◌};
 ghost use Rattle.ops.specs.Machine.{cfp_m, max_instrs};

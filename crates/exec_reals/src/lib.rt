@@ -1,5 +1,7 @@
 // Real operations: LDR, STR, ADR, SBR, MLR, DVR, ROV, RNO, NGR, REQ, RGE, RGT, RLE, RLT, RNE, ITR, RTI [02 Wish 5]. RA's two words and its flag are words of z.
 // Each answers 64 + the offset of the next entry or of the place that it branches to, or 22 or 23, which leave registers and memory as they were.
+#![tactic(auto)]
+
 ghost use Rattle.std.specs.Prelude.{◌≡◌, ◌+◌};
 ghost use Rattle.ops.specs.Ops as Op;
 ghost use Rattle.rules.specs.Effect.{shown};

@@ -1,6 +1,8 @@
 // The checks, the machine and the snapshot as a host calls them, with plain words and bytes for all that is lent [S Numbers the host sees].
 // An answer is a number, 0 or that of a refusal; where there is a value too, the number is the upper half of a u64 and the value the lower.
 // A refusal changes no lent word and no lent byte.
+#![tactic(auto)]
+
 ghost use Rattle.std.specs.Prelude.{◌≡◌, List, ℕ, length};
 ghost use Rattle.host_claims.specs.Answer.{state_number, table_number};
 ghost use Rattle.rules.specs.Run.{resumes, runs};

@@ -1,5 +1,7 @@
 // The number of each answer of the snapshot [S Numbers the host sees]. Where there is a value too, the number is the upper half of a u64
 // and the value the lower.
+#![tactic(auto)]
+
 ghost use Rattle.std.specs.Prelude.{◌≡◌};
 ghost use Rattle.host_numbers.specs.Numbers.{number_restored, number_written};
 

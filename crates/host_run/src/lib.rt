@@ -1,4 +1,6 @@
 // A run over plain words [S Numbers the host sees]. What a host calls is in host, under its C name, by this contract.
+#![tactic(auto)]
+
 ghost use Rattle.rules.specs.Run.{runs};
 ghost use Rattle.host_claims.specs.Running.{HostRuns};
 

@@ -1,5 +1,7 @@
 // The checks, start, resume, the writer and restore over plain words and bytes [S Numbers the host sees]: all that needs no step.
 // A refusal changes no lent word and no lent byte. What a host calls is in host, under its C names, by these contracts.
+#![tactic(auto)]
+
 ghost use Rattle.std.specs.Prelude.{◌≡◌, List, ℕ, length};
 ghost use Rattle.host_claims.specs.Answer.{state_number, table_number};
 ghost use Rattle.host_claims.specs.Freezing.{HostRestores, HostWrites};

@@ -1,4 +1,6 @@
 // Words of 32 bits read as signed, and sums, products and quotients of them, which do not wrap.
+#![tactic(auto)]
+
 ghost use Rattle.std.specs.Prelude.{◌≡◌, neg_ℤ, ◌+ℤ◌, ◌-ℤ◌, ◌*ℤ◌};
 ghost use Rattle.std.specs.Int.Signed.{quot_z, rem_z};
 ghost use Rattle.words.specs.Words as W;

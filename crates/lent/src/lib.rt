@@ -1,6 +1,8 @@
 // A state that a host lends as words: XL XR XS WA WB WC IA, the flag, the place, whether the state waits, the count of its links,
 // then 256 links, oldest first, then RA's low word, its high word and its flag. Words behind these are not looked at, nor are links from the
 // count on.
+#![tactic(auto)]
+
 ghost use Rattle.std.specs.Prelude.{◌≡◌, ◌≤◌, length, ◌+◌, ◌++◌, drop};
 ghost use Rattle.snap_core.specs.Buffers.{put};
 ghost use Rattle.lent.specs.Lent.{code_from, head_of, lawful, links_lent, tail_of, words_from};

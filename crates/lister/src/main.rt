@@ -1,5 +1,7 @@
 // Reads cards on standard input through the card reader, and prints each line's number and bounds; before that, the same of some short texts [S Cards].
 // Of each text: its name, a line for each of its lines, and how many they are. An empty text has none.
+#![tactic(auto)]
+
 ghost use Rattle.std.specs.Prelude.{◌≡◌, length};
 ghost use Rattle.language.specs.Text.{lines};
 

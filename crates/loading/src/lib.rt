@@ -1,5 +1,7 @@
 // Memory as a program begins with it: the table's words, the host's fresh ones [S The house machine], and zeros behind them [02 Wish 6].
 // Memory is filled whole, and its few fresh words are set after.
+#![tactic(auto)]
+
 ghost use Rattle.std.specs.Prelude.{◌++◌, ◌≡◌, ◌+◌, ◌-◌, ◌<◌, ◌≤◌, length, replicate, take};
 ghost use Rattle.base.specs.Test.{Ok};
 ghost use Rattle.rules.specs.Check.{table_ok};

@@ -1,6 +1,8 @@
 // A run with a budget, of a machine that has begun [S Numbers the host sees].
 // Any table, memory and state may be lent. A refusal changes no lent word and leaves the state as it is. Refusals are judged in the order
 // of their numbers: 30, 31, 32.
+#![tactic(auto)]
+
 ghost use Rattle.resuming.specs.Answers.{Runs};
 
 use admission::{Admission, check_state};

@@ -1,4 +1,6 @@
 // Look-ups in a list of rows, by the three letters of a mnemonic and by number, and what a row's cells say [S The house machine] [02 Wish 4].
+#![tactic(auto)]
+
 ghost use Rattle.std.specs.Prelude.{◌≡◌};
 ghost use Rattle.op_lookup.specs.Answers.{AnswersIn, lettered};
 

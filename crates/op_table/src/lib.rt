@@ -2,6 +2,8 @@
 // the house machine has, in the order of that list. As there, a row has the number as section and item, the mnemonic, and its operands.
 // OPT_ stands before an operand that may be left out (the list's star); STILL_ before one that takes no (X)+, and SHIFT for a VAL to 32, as [S Shape
 // rules] has it. PRC's card has a procedure type before its operand, ERR's and ERB's a text after it. The last cell is the control class.
+#![tactic(auto)]
+
 ghost use Rattle.std.specs.Prelude.{◌≡◌, map};
 ghost use Rattle.ops.specs.Ops.{rows, cells_of};
 ghost use Rattle.op_lookup.specs.Answers.{Answers};

@@ -1,4 +1,6 @@
 // Real arithmetic on RA, a 64-bit float that is kept as two words of z, the low one first, beside its overflow flag [02 Wish 5].
+#![tactic(auto)]
+
 ghost use Rattle.std.specs.Prelude.{◌≡◌, not, ◌+◌, ◌*◌, ◌/◌, ◌%◌, ◌^◌, T, leb};
 ghost use Rattle.base.specs.Test.{◌and◌};
 ghost use Rattle.std.specs.Float.Ieee.{is_nan};

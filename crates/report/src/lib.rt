@@ -1,5 +1,7 @@
 // A run of cards as one line [S Reference runs]: 256 zeroed words of memory, argument 0, budget 1,000 and fresh words 0; then ending, steps, place,
 // open links, XL, XR, XS, WA, WB, WC, IA; or the number and line of a refusal.
+#![tactic(auto)]
+
 use assembler::{MAX_BYTES, MAX_TABLE};
 use bodies::entry::index;
 use host::cards::torzimlak_assemble;

@@ -1,6 +1,8 @@
 // A resume with an exit, of a machine that waits; the answers of runs and resumes; the host's state as the words that a step is lent, and back
 // [S Numbers the host sees]. Any table, memory and state may be lent. A refusal leaves the state as it is. Refusals are judged in the order of
 // their numbers: 30, 31, 33.
+#![tactic(auto)]
+
 ghost use Rattle.resuming.specs.Answers.{Resumes};
 
 use admission::{Admission, check_state};

@@ -1,5 +1,7 @@
 // The snapshot: a machine written to a file, and a machine woken from any file [S The snapshot].
 // A refusal changes no lent word and no lent byte. Numbers are judged in their order: restore 30, 40, 41, 42, 43, 44; the writer 30, 31, 45.
+#![tactic(auto)]
+
 ghost use Rattle.std.specs.Prelude.{◌≡◌};
 ghost use Rattle.states.specs.Views.{state_of};
 ghost use Rattle.snapshot.specs.Answers.{Restores, Writes};

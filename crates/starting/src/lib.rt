@@ -1,5 +1,7 @@
 // The start of a program in the memory that the host lends [S The house machine], plain or warm [02 Wish 6].
 // Any table, memory and fresh words may be lent. A refusal changes no lent word. Refusals are judged in this order: 30, 10, 43.
+#![tactic(auto)]
+
 ghost use Rattle.std.specs.Prelude.{◌≡◌};
 ghost use Rattle.rules.specs.Number.{verdict_number};
 ghost use Rattle.base.specs.Test.{Ok};

@@ -1,4 +1,6 @@
 // The state of the machine as the host holds it, and the fresh state [S Numbers the host sees].
+#![tactic(auto)]
+
 ghost use Rattle.std.specs.Prelude.{◌≡◌, replicate};
 ghost use Rattle.base.specs.Test.{Ok};
 ghost use Rattle.rules.specs.Check.{table_ok};

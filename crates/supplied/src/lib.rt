@@ -1,4 +1,6 @@
 // The names that `EQU *` takes, each with its value, and no other [S The house machine].
+#![tactic(auto)]
+
 ghost use Rattle.std.specs.Prelude.{◌≡◌, map};
 ghost use Rattle.supplied.specs.Supplied.{packed_name, supplied_of, supplies, supply_cells};
 

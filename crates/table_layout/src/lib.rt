@@ -1,4 +1,6 @@
 // The layout of a table: limits, exact length, sections, fresh addresses and exit counts [S The table].
+#![tactic(auto)]
+
 ghost use Rattle.std.specs.Prelude.{◌≡◌, true, ◌+◌, ◌*◌, ◌≤◌, ◌<◌, eqb, length, get_or};
 ghost use Rattle.ops.specs.Machine.{cfp_b};
 ghost use Rattle.rules.specs.Check.{limits_ok, sections_ok, fresh_ok, counts_ok, layout_ok};

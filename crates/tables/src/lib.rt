@@ -1,4 +1,6 @@
 // The table check: it accepts exactly the tables of lawful length, limits and fields that keep the shape rules [S Shape rules].
+#![tactic(auto)]
+
 ghost use Rattle.std.specs.Prelude.{◌≡◌};
 ghost use Rattle.rules.specs.Check.{table_ok};
 

@@ -2,6 +2,8 @@
 // asked and read stands in the `tool_` libraries below.
 // A program has no exit status of its own: whatever it writes to standard error says that it failed, and the script `torzimlak` makes the
 // status of that.
+#![tactic(auto)]
+
 use cards::{on_assemble, on_check};
 use machines::on_program;
 use operations::on_operations;

@@ -1,4 +1,6 @@
 // The numbers that the host sees, in plain words [S Numbers the host sees], and the lines that tell of them.
+#![tactic(auto)]
+
 use console::lines::line_of;
 use console::page::complain;
 use console::word::{Word, word_in};

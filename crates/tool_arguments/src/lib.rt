@@ -1,4 +1,6 @@
 // The arguments that are paths of files. Once a command's paths are seen to be there, a file goes by the number of its argument.
+#![tactic(auto)]
+
 ghost use Rattle.io.specs.Counts.{IsPrefixLen};
 
 pub mod sizes;

@@ -1,4 +1,6 @@
 // The command line: which command is asked for, whether it has the arguments that it takes, help, and what is said of wrong use.
+#![tactic(auto)]
+
 ghost use Rattle.std.specs.Prelude.{◌≤◌, length};
 
 use asm_text::{BLANK, find_byte};

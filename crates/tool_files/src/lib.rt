@@ -1,4 +1,6 @@
 // Whole files: read, or written so that a failure leaves the file as it was. What cannot be done is told on standard error.
+#![tactic(auto)]
+
 ghost use Rattle.std.specs.Prelude.{◌≤◌, length};
 ghost use Rattle.io.specs.Counts.{IsPrefixLen};
 ghost use Rattle.libc.specs.Io.{Ended};

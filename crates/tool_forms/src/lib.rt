@@ -1,5 +1,7 @@
 // Messages by their forms, so that a message is one call: the bytes of the form, but the text where it has `%`, the other text where it has `$`, and the
 // next of the numbers where it has `#`.
+#![tactic(auto)]
+
 ghost use Rattle.std.specs.Prelude.{◌+◌, ◌<◌, ◌≤◌};
 
 use console::page::{complain, put, put_number, show};

@@ -1,4 +1,6 @@
 // The fresh words of a machine: the arguments', or the system's.
+#![tactic(auto)]
+
 ghost use Rattle.std.specs.Prelude.{◌≤◌};
 
 use console::word::{Word, word_in};

@@ -1,4 +1,6 @@
 // The operation table as the paper's list has it [M section 8]: number, mnemonic, a star where the last operand may be left out, operands.
+#![tactic(auto)]
+
 ghost use Rattle.std.specs.Prelude.{◌<◌};
 
 use console::lines::line_of;

@@ -1,4 +1,6 @@
 // RA in decimal, as a run's report tells it: at most 15 digits, the last rounded half up on the exact value, without zeros behind.
+#![tactic(auto)]
+
 ghost use Rattle.std.specs.Prelude.{◌<◌, ◌≤◌};
 ghost use Rattle.io.specs.Counts.{IsPrefixLen};
 

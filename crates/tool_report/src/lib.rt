@@ -1,5 +1,7 @@
 // What a run left, as lines, over plain words: the table's, memory's and the 270 of a state. A run's answer has a number in its upper half and the steps in its
 // lower; endings are told with what they left.
+#![tactic(auto)]
+
 use console::lines::line_of;
 use console::page::show;
 use ops::constants::Machine;

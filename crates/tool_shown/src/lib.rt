@@ -1,4 +1,6 @@
 // The text that a machine shows while it waits.
+#![tactic(auto)]
+
 ghost use Rattle.io.specs.Counts.{IsPrefixLen};
 
 use asm_text::all_printed;

@@ -1,5 +1,7 @@
 // Lines that the gate compares, each part under a heading: the examples, each run as the trial does; the decks, each assembled; the reference runs;
 // and two machines, frozen, woken, and their files damaged. The arguments name the files, each in the folder of its part.
+#![tactic(auto)]
+
 use files::each_file;
 use snapshots::tell_snapshots;
 use telling::say;

@@ -1,0 +1,10 @@
+-- `asm_operands::operands::term_by`: each arm is the clause of its term.
+use mathlib.Core.Path.{◌∙◌, refl}
+use Rattle.language.specs.Symbol.{meaning}
+use Rattle.asm_operands.proofs.operands.term_by.Goals as goal
+
+pub returns-in-Constant : goal.returns-in-Constant
+returns-in-Constant c = c.value_within.ensures ∙ rw c.in-Constant.is refl
+
+pub returns-in-Named : goal.returns-in-Named
+returns-in-Named c = c.equal_by.ensures ∙ rw (c.meaning.ensures.0, c.in-Named.is) refl

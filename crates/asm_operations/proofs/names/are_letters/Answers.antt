@@ -1,0 +1,16 @@
+-- `asm_operations::names::are_letters` meets its contract: each return rewrites with the tests that led there.
+use Rattle.base.specs.Test.{◌and◌}
+use borrow.Author.Tests.{not-true, not-false}
+use Rattle.asm_operations.proofs.names.are_letters.Goals as goal
+
+pub returns-then-not-is_letter : goal.returns-then-not-is_letter
+unfolding ◌and◌
+returns-then-not-is_letter c = rw (← c.is_letter.ensures, not-true c.is_letter.result c.if-not-is_letter.true)
+
+pub returns-then-not-is_letter-2 : goal.returns-then-not-is_letter-2
+unfolding ◌and◌
+returns-then-not-is_letter-2 c = rw (← c.is_letter.ensures, not-false c.is_letter.result c.if-not-is_letter.false, ← c.is_letter-2.ensures, not-true c.is_letter-2.result c.if-not-is_letter-2.true)
+
+pub returns : goal.returns
+unfolding ◌and◌
+returns c = rw (← c.is_letter.ensures, not-false c.is_letter.result c.if-not-is_letter.false, ← c.is_letter-2.ensures, not-false c.is_letter-2.result c.if-not-is_letter-2.false) c.is_letter-3.ensures

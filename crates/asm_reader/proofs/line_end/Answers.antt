@@ -1,0 +1,20 @@
+-- `asm_reader::line_end` meets its contract. Its parameters are plain, so the borrow checker's part walks the code: who calls `line_at` needs no walk by hand.
+-- Each arm is given which step `line_at` returned, and that step says where the line ends.
+use mathlib.Core.Path.{sym, ◌∙◌}
+use native.Mathlib.Omega.{arith}
+use Rattle.asm_reader.proofs.Laws.{end_le, end_none, end-stepped}
+use Rattle.asm_reader.proofs.line_end.Goals as goal
+
+pub returns-in-Line : goal.returns-in-Line
+returns-in-Line c =
+    let at-start = c in
+    let s = at-start.args.text.now in
+    let i = at-start.args.at in
+    let e = end-stepped s i _ _ (sym c.line_at.ensures ∙ c.in-Line.is) in
+    (e, omega (arith, e, end_le s i at-start.requires))
+
+pub returns-in-End : goal.returns-in-End
+returns-in-End c =
+    let at-start = c in
+    let e = end_none at-start.args.text.now at-start.args.at (sym c.line_at.ensures ∙ c.in-End.is) in
+    (e, at-start.requires)

@@ -1,0 +1,15 @@
+-- `asm_shapes::loose::loose_fault` meets its contract: the class, the rules that all classes share.
+use Rattle.asm_shapes.proofs.Smallest.{faults-small, loose-shared}
+use Rattle.asm_shapes.specs.Shared.{shared}
+use Rattle.asm_types.specs.Views.{parsed_view}
+use Rattle.language.specs.Fault.{loose_class}
+use Rattle.rules.specs.Table.{class_at}
+use native.Mathlib.Omega.{arith}
+use mathlib.Core.Path.{ap, ◌∙◌}
+use Rattle.asm_shapes.proofs.loose.loose_fault.Goals as goal
+
+pub shared_fault-requires : goal.shared_fault-requires
+shared_fault-requires c = (c.requires.0, c.requires.1, omega (arith, c.loose_class-f.ensures, faults-small (loose_class c.args.table.now c.args.p (parsed_view c.args.count) (class_at c.args.table.now c.args.p))))
+
+pub returns : goal.returns
+returns c = c.shared_fault.ensures ∙ ap (shared c.args.table.now c.args.p) c.loose_class-f.ensures ∙ loose-shared c.args.table.now c.args.p (parsed_view c.args.count)

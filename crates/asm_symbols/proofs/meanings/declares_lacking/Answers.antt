@@ -1,0 +1,15 @@
+-- `asm_symbols::meanings::declares_lacking`: the name of a declaration is asked for.
+use mathlib.Core.Path.{◌∙◌, ap, refl, sym}
+use borrow.Author.Tests.{not-false, not-true}
+use Rattle.base.specs.Test.{◌and◌}
+use Rattle.language.specs.Symbol.{is_lacking, meaning}
+use Rattle.asm_symbols.specs.Walk.{declares}
+use Rattle.asm_symbols.proofs.meanings.declares_lacking.Goals as goal
+
+pub returns-then-not-is_among : goal.returns-then-not-is_among
+unfolding declares ◌and◌
+returns-then-not-is_among c = rw (sym c.is_among.ensures ∙ not-true _ c.if-not-is_among.true) refl
+
+pub returns : goal.returns
+unfolding declares ◌and◌
+returns c = c.is_lacking.ensures ∙ rw (sym c.is_among.ensures ∙ not-false _ c.if-not-is_among.false) (ap is_lacking c.meaning.ensures.0)

@@ -1,0 +1,42 @@
+-- The invariant: what is left, copied from the start to the distance, makes what is copied from the start. The measure: the words left.
+use mathlib.Core.Path.{refl, sym, ◌∙◌}
+use native.Mathlib.Omega.{arith}
+use Rattle.block_copy.proofs.Whole.{same-words}
+use Rattle.block_copy.proofs.Repeat.{doubled-words}
+use Rattle.block_copy.proofs.copy_words_above.Goals as goal
+
+pub loop-distance-init : goal.loop-distance-init
+loop-distance-init c = (same-words c.args.n c.args.from c.args.m.now (omega arith), omega arith, omega arith, refl, λ j. (c.slice_known-1.given j).fits)
+
+pub overflow_add-from : goal.overflow_add-from
+overflow_add-from c = omega arith
+
+pub copy_words-requires : goal.copy_words-requires
+copy_words-requires c = (omega arith, omega arith)
+
+pub overflow_sub-left : goal.overflow_sub-left
+overflow_sub-left c = omega arith
+
+pub overflow_add-distance : goal.overflow_add-distance
+overflow_add-distance c = omega arith
+
+pub loop-distance-smaller : goal.loop-distance-smaller
+loop-distance-smaller c = omega arith
+
+pub loop-distance-preserved : goal.loop-distance-preserved
+loop-distance-preserved c =
+    let l = c.loop-distance in
+    let k = c.copy_words in
+    (l.invariant.0 ∙ doubled-words l.left l.distance c.args.from l.m _ l.invariant.4 (λ j. (c.slice_known-in-loop-distance-1.given j).fits) l.invariant.2 (omega arith) (omega arith) k.ensures k.auto.0, omega arith, omega arith, k.auto.0 ∙ l.invariant.3, λ j. (c.slice_known-in-loop-distance-1.given j).fits)
+
+pub overflow_add-from-2 : goal.overflow_add-from-2
+overflow_add-from-2 c = omega arith
+
+pub copy_words-requires-2 : goal.copy_words-requires-2
+copy_words-requires-2 c = (omega arith, omega arith)
+
+pub shape_of-m : goal.shape_of-m
+shape_of-m c = c.copy_words-2.auto.0 ∙ c.loop-distance.invariant.3
+
+pub returns : goal.returns
+returns c = c.copy_words-2.ensures ∙ sym c.loop-distance.invariant.0

@@ -1,0 +1,10 @@
+-- src/lib.rt:195:25
+use mathlib.Core.Path.{◌∙◌}
+use Rattle.rules.specs.Operand.{given}
+use Rattle.rules.specs.Exec.{combines, changes}
+use Rattle.exec_bits.proofs.Laws.{moved_here}
+use Rattle.exec_bits.proofs.ctb.Goals as goal
+
+pub returns : goal.returns
+unfolding combines changes given
+returns c = λ k m. c.put.ensures k c.args.z.now m ∙ rw (c.held-v.ensures m, moved_here _ _ _ c.requires.two, c.register-w.ensures m, c.ctb.ensures)

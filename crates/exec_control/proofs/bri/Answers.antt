@@ -1,0 +1,33 @@
+-- src/lib.rt:161:26
+use native.Mathlib.Omega.{arith}
+use Rattle.rules.specs.Operand.{given}
+use Rattle.rules.specs.Exec.{tells}
+use Rattle.exec_core.specs.Entry.{readable, going}
+use Rattle.exec_calls.proofs.Places.{entry-at}
+use Rattle.exec_control.proofs.Entered.{entry-few, bri-goes}
+use Rattle.exec_control.proofs.Takes.{bri-takes}
+use Rattle.exec_control.proofs.bri.Goals as goal
+
+pub fetch-f-requires : goal.fetch-f-requires
+fetch-f-requires c = (rw c.operand-one.ensures (entry-at c.requires.0 readable readable going c.args.z.now c.requires.1 bri-takes).one, c.requires.1)
+
+pub returns-in_default : goal.returns-in_default
+unfolding tells given
+returns-in_default c = λ k ls. rw (← c.operand-one.ensures, ← c.fetch-f.ensures, c.in_default.is)
+
+pub returns-then-e-eq0 : goal.returns-then-e-eq0
+unfolding tells given
+returns-then-e-eq0 c = λ k ls. rw (← c.operand-one.ensures, ← c.fetch-f.ensures, c.in-Got.is, ← c.entry_of-e.ensures, c.if-e-eq0.true)
+
+pub act-requires : goal.act-requires
+act-requires c = rw c.operand-one.ensures (entry-at c.requires.0 readable readable going c.args.z.now c.requires.1 bri-takes).one
+
+pub overflow_mul-result : goal.overflow_mul-result
+overflow_mul-result c = omega (arith, (entry-few _ c.requires.0.checked _ _ c.entry_of-e.ensures).few)
+
+pub overflow_add-result : goal.overflow_add-result
+overflow_add-result c = omega (arith, (entry-few _ c.requires.0.checked _ _ c.entry_of-e.ensures).few)
+
+pub returns : goal.returns
+unfolding tells given
+returns c = λ k ls. rw (← c.operand-one.ensures, ← c.fetch-f.ensures, c.in-Got.is, ← c.act.ensures, ← c.entry_of-e.ensures) (bri-goes _ _ _ _ ls c.args.b c.entry_of-e.result c.if-e-eq0.false)

@@ -1,0 +1,12 @@
+-- src/lib.rt:145:26
+use Prim.Native.Nat.{◌+◌}
+use mathlib.Core.Path.{refl, ◌∙◌}
+use native.Mathlib.Omega.{arith}
+use Rattle.exec_core.proofs.Laws.{zero-kept}
+use Rattle.exec_integers.proofs.sti.Goals as goal
+
+pub store-requires : goal.store-requires
+store-requires c = (rw c.operand-one.ensures c.requires.one, c.requires.zero, omega arith)
+
+pub returns : goal.returns
+returns c = c.store.ensures (λ j. c.args.b + 72) 0 refl ∙ rw (zero-kept _ c.requires.zero, c.operand-one.ensures)

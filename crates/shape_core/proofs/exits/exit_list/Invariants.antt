@@ -1,0 +1,10 @@
+use Rattle.rules.specs.Check.{all_exits}
+use Prim.Native.Nat.{◌+◌, ◌-◌, ◌≤◌}
+use mathlib.Core.Path.{◌≡◌}
+use Rattle.shape_core.proofs.exits.exit_list.Given as goal
+
+abbrev pub invariant-loop-i : goal.invariant-loop-i
+invariant-loop-i l = (l.i ≤ l.k) × (all_exits l.table l.p l.k ≡ all_exits l.table (l.p + l.i) (l.k - l.i))
+
+abbrev pub decreases-loop-i : goal.decreases-loop-i
+decreases-loop-i l = l.k - l.i

@@ -1,0 +1,15 @@
+-- `shape_core::exits::jsr_ok` meets its contract: each return rewrites with the tests that led there.
+use Rattle.shape_core.proofs.Lists.{jsr-unnamed, jsr-unlisted, jsr-listed}
+use borrow.Author.Tests.{not-true, not-false}
+use mathlib.Core.Bool.{true, false}
+use mathlib.Core.Path.{sym, ◌∙◌}
+use Rattle.shape_core.proofs.exits.jsr_ok.Goals as goal
+
+pub returns-in_default : goal.returns-in_default
+returns-in_default c = jsr-unnamed c.args.table.now c.args.p (sym c.exits_of-exits.ensures ∙ c.in_default.is)
+
+pub returns-then-not-exit_list : goal.returns-then-not-exit_list
+returns-then-not-exit_list c = jsr-unlisted c.args.table.now c.args.p c.in-Count.k (sym c.exits_of-exits.ensures ∙ c.in-Count.is) (sym c.exit_list.ensures ∙ not-true c.exit_list.result c.if-not-exit_list.true)
+
+pub returns : goal.returns
+returns c = c.reaches.ensures ∙ rw c.index.ensures (jsr-listed c.args.table.now c.args.p c.in-Count.k (sym c.exits_of-exits.ensures ∙ c.in-Count.is) (sym c.exit_list.ensures ∙ not-false c.exit_list.result c.if-not-exit_list.false))

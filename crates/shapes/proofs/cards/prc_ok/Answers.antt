@@ -1,0 +1,22 @@
+-- `shapes::cards::prc_ok` meets its contract: each return rewrites with the tests that led there.
+use Rattle.shapes.proofs.Rules.{prc-closed}
+use Prim.Native.Nat.{◌+◌}
+use Rattle.shape_core.proofs.Tests.{and_no, and_yes}
+use Rattle.shape_core.proofs.Codes.{executable-code}
+use Rattle.table_layout.proofs.Belows.{and-true}
+use native.Mathlib.Numerals.{add-one}
+use Rattle.base.specs.Test.{◌and◌}
+use borrow.Author.Tests.{lt-ltb, le-ltb, not-true, not-false}
+use native.Mathlib.Omega.{arith}
+use mathlib.Core.Bool.{true, false}
+use mathlib.Core.Path.{sym, ◌∙◌}
+use Rattle.shapes.proofs.cards.prc_ok.Goals as goal
+
+pub returns-then-not-is_outside : goal.returns-then-not-is_outside
+returns-then-not-is_outside c = sym (and_no _ _ (sym c.is_outside.ensures ∙ not-true c.is_outside.result c.if-not-is_outside.true))
+
+pub returns-then-classes-p-ge-EXECUTABLE : goal.returns-then-classes-p-ge-EXECUTABLE
+returns-then-classes-p-ge-EXECUTABLE c = sym (and_yes _ _ (sym c.is_outside.ensures ∙ not-false c.is_outside.result c.if-not-is_outside.false) ∙ and_no _ _ (rw (← add-one c.args.p) (executable-code c.args.table.now (c.args.p + 1) _ (c.requires.0.classes (c.args.p + 1) (omega arith))) ∙ le-ltb _ _ c.if-classes-p-ge-EXECUTABLE.true))
+
+pub returns : goal.returns
+returns c = sym (and_yes _ _ (sym c.is_outside.ensures ∙ not-false c.is_outside.result c.if-not-is_outside.false) ∙ and_yes _ _ (rw (← add-one c.args.p) (executable-code c.args.table.now (c.args.p + 1) _ (c.requires.0.classes (c.args.p + 1) (omega arith))) ∙ lt-ltb _ _ c.if-classes-p-ge-EXECUTABLE.false) ∙ and-true _ ∙ prc-closed c.args.table.now c.args.p c.args.n c.index.result c.requires.0.count (c.index.ensures ∙ c.requires.0.bodies c.args.n (omega arith)))

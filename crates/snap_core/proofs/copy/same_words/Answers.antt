@@ -1,0 +1,39 @@
+-- `snap_core::copy::same_words` meets its contract. The loop's invariant: the words are the same if those from i on are.
+use mathlib.Core.Path.{refl, sym, ◌∙◌}
+use native.Mathlib.Omega.{arith}
+use Rattle.snap_core.proofs.Reading.{same_first, same_next, same-other, same-last}
+use Rattle.snap_core.proofs.copy.same_words.Goals as goal
+
+pub loop-i-init : goal.loop-i-init
+loop-i-init c = (refl, omega arith, same_first _ _ _ _)
+
+pub overflow_mul-i : goal.overflow_mul-i
+overflow_mul-i c = omega arith
+
+pub overflow_add-at : goal.overflow_add-at
+overflow_add-at c = omega arith
+
+pub read_word-requires : goal.read_word-requires
+read_word-requires c = omega arith
+
+pub offset_bounds-ws-i : goal.offset_bounds-ws-i
+offset_bounds-ws-i c = omega arith
+
+pub bounds-ws-i : goal.bounds-ws-i
+bounds-ws-i c = omega arith
+
+pub returns-then-read_word-ws : goal.returns-then-read_word-ws
+returns-then-read_word-ws c = let v = c.loop-i.invariant in sym (v.2 ∙ same-other _ _ _ _ _ c.loop-i-test.true (sym v.0) (rw c.read_word.ensures at c.if-read_word-ws.true))
+
+pub overflow_add-i : goal.overflow_add-i
+overflow_add-i c = omega arith
+
+pub loop-i-smaller : goal.loop-i-smaller
+loop-i-smaller c = omega arith
+
+pub loop-i-preserved : goal.loop-i-preserved
+loop-i-preserved c = let v = c.loop-i.invariant in
+    (v.0, omega arith, v.2 ∙ same_next _ _ _ _ _ c.loop-i-test.true (sym v.0) (rw c.read_word.ensures at c.if-read_word-ws.false))
+
+pub returns : goal.returns
+returns c = let v = c.loop-i.invariant in sym (v.2 ∙ same-last _ _ _ _ _ c.loop-i-test.false (sym v.0))

@@ -1,0 +1,15 @@
+-- `vectors::telling::tell_tally` is safe and ends: each round is one of 64.
+use Rattle.std.proofs.Common.{arith}
+use Rattle.vectors.proofs.telling.tell_tally.Goals as goal
+
+pub loop-i-init : goal.loop-i-init
+loop-i-init c = omega arith
+
+pub overflow_add-i : goal.overflow_add-i
+overflow_add-i c = omega arith
+
+pub loop-i-smaller : goal.loop-i-smaller
+loop-i-smaller c = omega arith
+
+pub loop-i-preserved : goal.loop-i-preserved
+loop-i-preserved c = omega arith
