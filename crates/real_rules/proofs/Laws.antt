@@ -6,7 +6,7 @@ use mathlib.Core.Bool.{Bool, true, false, not, cond}
 use native.Mathlib.Omega.{arith}
 use lib.Dec.{T, eqb, ltb→lt, nltb→le, eqb→eq, lt→ltb, le→leb}
 use lib.IntN.{ℤ}
-use lib.Ieee.{Float, nan, inf, fin, binary64, lt, eq, is_nan, nan_bits, odd, of_fields, of_bits, to_bits, fits, in_float, neg, of_int, round}
+use lib.Ieee.{Float, nan, inf, fin, binary64, prec, low, hid, lt, eq, is_nan, nan_bits, odd, of_fields, of_bits, to_bits, fits, in_float, neg, of_int, round}
 use lib.Arith.{le→nltb}
 use lib.Ieee.Bits.{nan_bits_above, to_bits-lt}
 use lib.Ieee.Exact.{HasValue}
@@ -53,8 +53,8 @@ by_cond P false x y f g = g tt
 
 pub fields-finite : (s : Bool) (x t : ℕ) → x < 2047 → answer (of_fields binary64 s x t) ≡ value (of_fields binary64 s x t)
 unfolding of_fields
-fields-finite s zero t h = answer-odd _ s t 0 _
-fields-finite s (suc x) t h = by_cond (λ (v : Float). answer v ≡ value v) (eqb (suc x) 2047) _ _ (λ e. absurd (unequal (suc x) h (eqb→eq (suc x) 2047 e))) (λ e. answer-odd _ s (2 ^ 52 + t) x _)
+fields-finite s zero t h = answer-odd (prec binary64) s t 0 (low binary64)
+fields-finite s (suc x) t h = by_cond (λ (v : Float). answer v ≡ value v) (eqb (suc x) 2047) _ _ (λ e. absurd (unequal (suc x) h (eqb→eq (suc x) 2047 e))) (λ e. answer-odd (prec binary64) s (hid binary64 + t) x (low binary64))
   where
     unequal : (a : ℕ) → a < 2047 → a ≡ 2047 → ⊥
     unequal a p q = omega arith
