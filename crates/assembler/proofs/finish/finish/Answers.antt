@@ -26,22 +26,22 @@ is_complete-requires c = ((laid-is _ _ _ _ c.requires.1).limits.header, c.requir
 
 pub returns-then-not-is_complete : goal.returns-then-not-is_complete
 returns-then-not-is_complete c =
-    incomplete-ends _ _ _ _ _ c.requires.1 _ c.judge-v.ensures c.in-Clear.is _ c.is_complete.ensures (not-true _ c.if-not-is_complete.true)
+    incomplete-ends _ _ _ _ _ c.requires.1 _ c.judge-v.ensures c.in-Clear.is _ c.is_complete.ensures c.if-not-is_complete.true
 
 pub returns-then-not-is_within : goal.returns-then-not-is_within
 returns-then-not-is_within c =
-    over-ends _ _ _ _ _ c.requires.1 _ c.judge-v.ensures c.in-Clear.is _ c.is_complete.ensures (not-false _ c.if-not-is_complete.false) _
-    c.is_within.ensures (not-true _ c.if-not-is_within.true)
+    over-ends _ _ _ _ _ c.requires.1 _ c.judge-v.ensures c.in-Clear.is _ c.is_complete.ensures c.if-not-is_complete.false _
+    c.is_within.ensures c.if-not-is_within.true
 
 pub returns-then-not-is_placed : goal.returns-then-not-is_placed
 returns-then-not-is_placed c =
-    short-ends _ _ _ _ _ c.requires.1 _ c.judge-v.ensures c.in-Clear.is _ c.is_complete.ensures (not-false _ c.if-not-is_complete.false) _
-    c.is_within.ensures (not-false _ c.if-not-is_within.false) _ _ c.is_placed.ensures (not-true _ c.if-not-is_placed.true)
+    short-ends _ _ _ _ _ c.requires.1 _ c.judge-v.ensures c.in-Clear.is _ c.is_complete.ensures c.if-not-is_complete.false _
+    c.is_within.ensures c.if-not-is_within.false _ _ c.is_placed.ensures c.if-not-is_placed.true
 
 pub overflow_cast-result : goal.overflow_cast-result
 overflow_cast-result c = omega (arith, short-table _ _ _ _ c.requires.1)
 
 pub returns : goal.returns
 returns c =
-    done-ends _ _ _ _ _ c.requires.1 _ c.judge-v.ensures c.in-Clear.is _ c.is_complete.ensures (not-false _ c.if-not-is_complete.false) _
-    c.is_within.ensures (not-false _ c.if-not-is_within.false) _ _ c.is_placed.ensures (not-false _ c.if-not-is_placed.false)
+    done-ends _ _ _ _ _ c.requires.1 _ c.judge-v.ensures c.in-Clear.is _ c.is_complete.ensures c.if-not-is_complete.false _
+    c.is_within.ensures c.if-not-is_within.false _ _ c.is_placed.ensures c.if-not-is_placed.false
