@@ -1,3 +1,12 @@
+use Rattle.ops.specs.Class as Class
+use Rattle.ops.specs.Ops as Op
+use Rattle.exec_bits.proofs.Takes as bits
+use Rattle.exec_blocks.proofs.Takes as blocks
+use Rattle.exec_branches.proofs.Takes as branches
+use Rattle.exec_chars.proofs.Takes as chars
+use Rattle.exec_integers.proofs.Takes as integers
+use Rattle.exec_moves.proofs.Takes as moves
+use Rattle.exec_reals.proofs.Takes as reals
 use mathlib.Core.Path.{refl, sym, ap, ◌∙◌}
 use native.Mathlib.Omega.{arith}
 use Prim.Native.Nat.{ℕ}
