@@ -5,12 +5,6 @@ use borrow.Author.Tests.{not-true, not-false}
 use native.Mathlib.Omega.{arith}
 use Rattle.asm_cards.proofs.word_count.Goals as goal
 
-)
-
-)
-
-)
-
 pub returns-then-not-of_words : goal.returns-then-not-of_words
 unfolding word_count if
 returns-then-not-of_words c = (rw (← c.of_words.ensures c.args.s.now, c.if-not-of_words.true), omega arith)
@@ -31,6 +25,7 @@ returns-then-is_assembly c = (
     c.if-is_assembly.true,
   ),
   omega arith,
+)
 
 pub returns-then-not-is_assembly : goal.returns-then-not-is_assembly
 unfolding word_count if
@@ -46,6 +41,7 @@ returns-then-not-is_assembly c = (
     c.if-not-is_assembly.true,
   ),
   omega arith,
+)
 
 pub returns : goal.returns
 unfolding word_count if
@@ -61,3 +57,4 @@ returns c = (
     c.if-not-is_assembly.false,
   ) c.text_words.ensures.0,
   omega (arith, c.text_words.ensures.1),
+)

@@ -30,7 +30,7 @@ pub load-requires : goal.load-requires
 load-requires c = (true-ok _ (sym c.check_table.ensures ∙ c.if-not-check_table.false), own-fits _ _ (true-ok _ (sym c.memory_fits.ensures ∙ c.if-not-memory_fits.false)), c.if-fresh-fresh_count.false ∙ c.fresh_count.ensures)
 
 pub fresh-state-requires : goal.fresh-state-requires
-fresh-state-requires c = (true-ok _ (sym c.check_table.ensures ∙ c.if-not-check_table.false), rw (c.clear.auto.0, c.load.auto.0) (true-ok _ (sym c.memory_fits.ensures ∙ c.if-not-memory_fits.false)))
+fresh-state-requires c = (true-ok _ (sym c.check_table.ensures ∙ c.if-not-check_table.false), rw (c.clear.auto.memory, c.load.auto.memory) (true-ok _ (sym c.memory_fits.ensures ∙ c.if-not-memory_fits.false)))
 
 pub returns : goal.returns
-returns c = begins _ _ _ _ _ _ (sym c.check_table.ensures ∙ c.if-not-check_table.false) (sym c.memory_fits.ensures ∙ c.if-not-memory_fits.false) _ _ (c.if-fresh-fresh_count.false ∙ c.fresh_count.ensures) (rw (c.fresh-state.ensures, c.clear.auto.0, c.load.auto.0)) c.kept-from.ensures (c.clear.ensures ∙ rw c.load.ensures)
+returns c = begins _ _ _ _ _ _ (sym c.check_table.ensures ∙ c.if-not-check_table.false) (sym c.memory_fits.ensures ∙ c.if-not-memory_fits.false) _ _ (c.if-fresh-fresh_count.false ∙ c.fresh_count.ensures) (rw (c.fresh-state.ensures, c.clear.auto.memory, c.load.auto.memory)) c.kept-from.ensures (c.clear.ensures ∙ rw c.load.ensures)

@@ -42,7 +42,7 @@ shapes_ok-requires c =
     let t = c.args.table.now in
     let o : layout_ok t ≡ true = sym c.layout_ok.ensures ∙ c.if-not-layout_ok.false in
     let l : Laid t = laid_of t (laid-long t o) o in
-    known_of t _ _ c.index-n.result l c.index-n.ensures (omega (arith, c.index-n.ensures, laid-few t o, c.fields_ok.auto.1.1.0)) (c.fields_ok.ensures.classes c.if-not-fields_ok.false) c.bodies.ensures
+    known_of t _ _ c.index-n.result l c.index-n.ensures (omega (arith, c.index-n.ensures, laid-few t o, c.fields_ok.auto.classes)) (c.fields_ok.ensures.classes c.if-not-fields_ok.false) c.bodies.ensures
 
 pub returns : goal.returns
 returns c =

@@ -16,7 +16,7 @@ bodies-requires c =
 
 pub judge-v-requires : goal.judge-v-requires
 judge-v-requires c =
-    (c.requires.0, judged-by _ _ _ _ c.requires.1 _ c.index-size.ensures _ _ (omega (arith, c.index-size.ensures, c.requires.1.collected.size_le, c.requires.2, c.classes_of.auto.1.1.1.1.0)) c.classes_of.ensures c.bodies.ensures, c.requires.4)
+    (c.requires.0, judged-by _ _ _ _ c.requires.1 _ c.index-size.ensures _ _ (omega (arith, c.index-size.ensures, c.requires.1.collected.size_le, c.requires.2, c.classes_of.auto.classes)) c.classes_of.ensures c.bodies.ensures, c.requires.4)
 
 pub returns-in_default : goal.returns-in_default
 returns-in_default c = broken-ends _ _ _ _ _ c.requires.1 _ c.judge-v.ensures _ _ _ c.in_default.is c.fault_in.ensures

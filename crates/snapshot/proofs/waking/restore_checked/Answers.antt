@@ -50,7 +50,7 @@ read_words-requires c =
 pub supply-requires : goal.supply-requires
 supply-requires c =
     let own = frozen-own _ _ (true-ok _ (sym c.frozen_ok.ensures ∙ c.if-not-frozen_ok.false)) in
-    (c.requires, omega (arith, c.read_words.auto.1.1.0, c.if-memory-index.false, c.index.ensures, c.trailer_word.ensures), c.if-fresh-fresh_count.false ∙ c.fresh_count.ensures)
+    (c.requires, omega (arith, c.read_words.auto.ws, c.if-memory-index.false, c.index.ensures, c.trailer_word.ensures), c.if-fresh-fresh_count.false ∙ c.fresh_count.ensures)
 
 pub frozen_state-state-requires : goal.frozen_state-state-requires
 frozen_state-state-requires c = (true-ok _ (sym c.trailer_ok.ensures ∙ c.if-not-trailer_ok.false), frozen-few _ _ (true-ok _ (sym c.frozen_ok.ensures ∙ c.if-not-frozen_ok.false)))
