@@ -8,8 +8,8 @@ use Rattle.accumulator.proofs.beyond.Goals as goal
 
 pub returns-then-fits : goal.returns-then-fits
 unfolding if
-returns-then-fits c = rw (← (c.fits2.ensures ∙ ap fits (to_z-of_z {w = w64} c.ranges.n)), c.if-fits.true)
+returns-then-fits c = rw (← (c.fits.ensures ∙ ap fits (to_z-of_z {w = w64} c.ranges.n)), c.if-fits.true)
 
 pub returns-else-fits : goal.returns-else-fits
 unfolding if
-returns-else-fits c = rw (← (c.fits2.ensures ∙ ap fits (to_z-of_z {w = w64} c.ranges.n)), c.if-fits.false)
+returns-else-fits c = rw (← (c.fits.ensures ∙ ap fits (to_z-of_z {w = w64} c.ranges.n)), c.if-fits.false)

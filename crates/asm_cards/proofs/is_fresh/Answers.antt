@@ -2,7 +2,7 @@
 use Rattle.asm_cards.proofs.Counting.{fresh-by}
 use Rattle.asm_types.specs.Views.{card_view}
 use Rattle.base.specs.Test.{◌and◌}
-use borrow.Author.Tests.{eq-eqb, ne_eqb, not-true, not-false}
+use borrow.Author.Tests.{eq-eqb, ne_eqb}
 use Rattle.asm_cards.proofs.is_fresh.Goals as goal
 
 pub returns-then-c-ne-SECTION_3 : goal.returns-then-c-ne-SECTION_3

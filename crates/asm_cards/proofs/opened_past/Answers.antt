@@ -1,7 +1,7 @@
 -- `asm_cards::opened_past` meets its contract: another operation, the last section, or one more.
 use Rattle.language.specs.Card.{opened_past}
 use Rattle.base.specs.Test.{◌and◌, if}
-use borrow.Author.Tests.{lt-ltb, le-ltb, not-true, not-false}
+use borrow.Author.Tests.{lt-ltb, le-ltb}
 use native.Mathlib.Nat.{add-zero}
 use Rattle.asm_cards.proofs.opened_past.Goals as goal
 

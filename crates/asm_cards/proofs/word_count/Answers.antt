@@ -1,7 +1,6 @@
 -- `asm_cards::word_count` meets its contract: each return rewrites with the tests that led there.
 use Rattle.language.specs.Card.{word_count}
 use Rattle.base.specs.Test.{if}
-use borrow.Author.Tests.{not-true, not-false}
 use native.Mathlib.Omega.{arith}
 use Rattle.asm_cards.proofs.word_count.Goals as goal
 

@@ -1,6 +1,6 @@
 -- `asm_faults::fault_of` meets its contract: the conditions by their numbers, each return by the tests that led there.
 use mathlib.Core.Path.{sym, ◌∙◌}
-use borrow.Author.Tests.{eq-eqb, ne_eqb, not-true, not-false}
+use borrow.Author.Tests.{eq-eqb, ne_eqb}
 use Rattle.base.specs.Test.{if}
 use Rattle.language.specs.Fault.{in_its_section, symbols_defined}
 use Rattle.asm_types.specs.Views.{card_view, symbols_in}

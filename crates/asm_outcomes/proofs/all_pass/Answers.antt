@@ -1,7 +1,6 @@
 -- `asm_outcomes::all_pass` meets its contract. Invariant: the test of the operands from i on answers for all.
 use mathlib.Core.Path.{refl, sym, ap, ◌∙◌}
 use native.Mathlib.Omega.{arith}
-use borrow.Author.Tests.{not-true, not-false}
 use Rattle.language.specs.Operand.{outcomes}
 use Rattle.asm_types.specs.Views.{card_view, symbols_in}
 use Rattle.asm_outcomes.specs.Tests.{test_by}

@@ -1,6 +1,5 @@
 -- `asm_outcomes::form_count` meets its contract: none, all, or the first alone.
 use mathlib.Core.Path.{sym, ap, ◌∙◌}
-use borrow.Author.Tests.{not-true, not-false}
 use lib.ListN.{length}
 use Rattle.language.specs.Operation.{DRC, is_assembly}
 use Rattle.language.specs.Fault.{forms_of}

@@ -2,7 +2,6 @@
 use mathlib.Core.Path.{sym, ap, ◌∙◌}
 use mathlib.Core.Bool.{not}
 use mathlib.Core.List.{map}
-use borrow.Author.Tests.{not-true, not-false}
 use lib.ListN.{get_or}
 use Rattle.language.specs.Form.{all_formed, form_by, formless, is_formless}
 use Rattle.language.specs.Operation.{DRC, is_assembly}

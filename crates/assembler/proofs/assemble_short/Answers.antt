@@ -14,13 +14,13 @@ fill-long-requires c = (c.rows-list.ensures, c.collect-c.ensures.symbolic, c.req
 
 pub slice_bounds-finish-end-2 : goal.slice_bounds-finish-end-2
 slice_bounds-finish-end-2 c =
-    let w = c.fill-long.new.1.1.1.1.1.0 in
+    let w = c.fill-long.new.draft in
     let e : length w ≡ 180240 = c.fill-long.ensures.same ∙ length-replicate {A = ℕ} 180240 0 in
     subst (λ (m : ℕ). c.fill-long.result ≤ m) (sym e) c.fill-long.ensures.end_le
 
 pub finish-requires : goal.finish-requires
 finish-requires c =
-    (c.rows-list.ensures, prepared _ _ c.fill-long.new.1.1.1.1.1.0 _ c.fill-long.result c.requires c.collect-c.ensures c.fill-long.ensures.image_is, search rules, search rules, c.number_index-numbers.ensures)
+    (c.rows-list.ensures, prepared _ _ c.fill-long.new.draft _ c.fill-long.result c.requires c.collect-c.ensures c.fill-long.ensures.image_is, search rules, search rules, c.number_index-numbers.ensures)
 
 pub returns : goal.returns
 returns c = c.finish.ensures

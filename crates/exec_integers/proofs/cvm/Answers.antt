@@ -19,11 +19,11 @@ shifted-n-requires c = digit-from _ _ (sym c.no_digit.ensures ∙ c.if-no_digit.
 
 pub returns-then-fits : goal.returns-then-fits
 unfolding cvm_of cvm_by if way_of
-returns-then-fits c m = let q = to_z-of_z {w = w64} (record { sfits = c.shifted-n.type_inv }) ∙ c.shifted-n.ensures in rw (← c.no_digit.ensures, c.if-no_digit.false, ← (c.fits2.ensures ∙ ap fits q), c.if-fits.true, c.low.ensures ∙ ap low q)
+returns-then-fits c m = let q = to_z-of_z {w = w64} (record { sfits = c.shifted-n.type_inv }) ∙ c.shifted-n.ensures in rw (← c.no_digit.ensures, c.if-no_digit.false, ← (c.fits.ensures ∙ ap fits q), c.if-fits.true, c.low.ensures ∙ ap low q)
 
 pub to_first-requires : goal.to_first-requires
 to_first-requires c = (c.requires.inside, place-kind c.requires.one)
 
 pub returns : goal.returns
 unfolding cvm_of cvm_by if
-returns c m = let q = to_z-of_z {w = w64} (record { sfits = c.shifted-n.type_inv }) ∙ c.shifted-n.ensures in rw (c.to_first.ensures, ← c.no_digit.ensures, c.if-no_digit.false, ← (c.fits2.ensures ∙ ap fits q), c.if-fits.false)
+returns c m = let q = to_z-of_z {w = w64} (record { sfits = c.shifted-n.type_inv }) ∙ c.shifted-n.ensures in rw (c.to_first.ensures, ← c.no_digit.ensures, c.if-no_digit.false, ← (c.fits.ensures ∙ ap fits q), c.if-fits.false)

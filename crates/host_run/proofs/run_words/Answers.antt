@@ -1,6 +1,5 @@
 -- src/lib.rt:129:9
 use mathlib.Core.Path.{sym, ◌∙◌}
-use borrow.Author.Tests.{not-true, not-false}
 use Rattle.host_run.proofs.Runs.{host-unrun, host-ended, host-refused}
 use Rattle.lent.proofs.Links.{lawful-enough}
 use Rattle.host_run.proofs.run_words.Goals as goal

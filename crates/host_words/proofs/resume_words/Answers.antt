@@ -1,6 +1,5 @@
 -- src/lib.rt:156:9
 use mathlib.Core.Path.{sym, ◌∙◌}
-use borrow.Author.Tests.{not-true, not-false}
 use Rattle.host_words.proofs.Resumes.{host-unresumed, host-went-on, host-declined}
 use Rattle.lent.proofs.Links.{lawful-enough}
 use Rattle.host_words.proofs.resume_words.Goals as goal

@@ -1,6 +1,5 @@
 -- `host_words::write_words` meets its contract: the table's check, then the words', then the writer's.
 use mathlib.Core.Path.{sym, ◌∙◌}
-use borrow.Author.Tests.{not-true, not-false}
 use Rattle.admission.proofs.Admits.{table-passed}
 use Rattle.host_words.proofs.Freezes.{host-unwritten-table, host-unwritten-words, host-written}
 use Rattle.lent.proofs.Links.{lawful-enough}

@@ -1,6 +1,5 @@
 -- `snapshot::restore` meets its contract: 30, or what restore does with a checked table.
 use mathlib.Core.Path.{sym, ◌∙◌}
-use borrow.Author.Tests.{not-true, not-false}
 use Rattle.base.proofs.Bool.{true-ok}
 use Rattle.snapshot.proofs.Wakings.{refuses-table}
 use Rattle.snapshot.proofs.restore.Goals as goal

@@ -1,6 +1,5 @@
 -- `snapshot::write` meets its contract: 30, or what the writer does with a checked table.
 use mathlib.Core.Path.{sym, ◌∙◌}
-use borrow.Author.Tests.{not-true, not-false}
 use Rattle.base.proofs.Bool.{true-ok}
 use Rattle.states.specs.Views.{state_of}
 use Rattle.snapshot.proofs.Answering.{unwritten-table}

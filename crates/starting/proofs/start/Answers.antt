@@ -1,7 +1,6 @@
 -- `starting::start` meets its contract: 30, 10, 43, or the program begins.
 use mathlib.Core.Path.{sym, ◌∙◌}
 use native.Mathlib.Omega.{arith}
-use borrow.Author.Tests.{not-true, not-false}
 use Rattle.base.proofs.Bool.{true-ok}
 use Rattle.loading.proofs.Sizes.{sizes}
 use Rattle.rules.proofs.Starts.{own-fits}

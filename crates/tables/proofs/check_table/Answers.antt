@@ -2,7 +2,6 @@
 use Rattle.tables.proofs.Passes.{laid_of, laid-few, laid-long, check-layout, check-fields, check-shapes, known_of, entries-of}
 use Rattle.table_layout.specs.Laid.{Laid}
 use Rattle.rules.specs.Check.{layout_ok}
-use borrow.Author.Tests.{not-true, not-false}
 use native.Mathlib.Omega.{arith}
 use mathlib.Core.Bool.{true}
 use mathlib.Core.Path.{◌≡◌, sym, ◌∙◌}

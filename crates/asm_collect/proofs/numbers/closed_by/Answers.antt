@@ -1,5 +1,4 @@
 -- `asm_collect::numbers::closed_by` meets its contract: each return rewrites with the tests that led there.
-use borrow.Author.Tests.{not-true, not-false}
 use mathlib.Core.Path.{refl}
 use Rattle.base.specs.Test.{◌and◌, ◌or◌}
 use Rattle.asm_collect.proofs.numbers.closed_by.Goals as goal

@@ -1,5 +1,4 @@
 -- `asm_collect::numbers::is_below` meets its contract: each return rewrites with the tests that led there.
-use borrow.Author.Tests.{not-true, not-false}
 use mathlib.Core.Path.{refl}
 use Rattle.base.specs.Test.{◌and◌}
 use Rattle.asm_collect.proofs.numbers.is_below.Goals as goal

@@ -2,7 +2,6 @@
 use Rattle.language.specs.Image.{counts_in}
 use Rattle.asm_draft.proofs.Storing.{untouched}
 use Rattle.base.specs.Test.{if}
-use borrow.Author.Tests.{not-true, not-false}
 use mathlib.Core.Path.{sym, ◌∙◌}
 use native.Mathlib.Omega.{arith}
 use Rattle.asm_draft.proofs.cards.put_count.Goals as goal

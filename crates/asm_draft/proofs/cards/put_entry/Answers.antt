@@ -4,7 +4,6 @@ use Rattle.asm_draft.proofs.Rows.{entry-long}
 use Rattle.asm_draft.proofs.Storing.{untouched}
 use Rattle.asm_types.specs.Views.{card_view, symbols_in}
 use Rattle.base.specs.Test.{if}
-use borrow.Author.Tests.{not-true, not-false}
 use mathlib.Core.Path.{sym, ◌∙◌}
 use native.Mathlib.Omega.{arith}
 use Rattle.asm_draft.proofs.cards.put_entry.Goals as goal

@@ -5,7 +5,6 @@ use Rattle.language.specs.Image.{words_in}
 use Rattle.language.proofs.Lengths.{real-length}
 use Rattle.asm_draft.proofs.Storing.{untouched}
 use Rattle.base.specs.Test.{if}
-use borrow.Author.Tests.{not-true, not-false}
 use mathlib.Core.Path.{sym, ◌∙◌}
 use native.Mathlib.Omega.{arith}
 use Rattle.asm_draft.proofs.cards.put_words.Goals as goal

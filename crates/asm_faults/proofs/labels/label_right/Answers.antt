@@ -1,6 +1,5 @@
 -- `asm_faults::labels::label_right` meets its contract: each return rewrites with the tests that led there.
 use mathlib.Core.Path.{sym, ◌∙◌}
-use borrow.Author.Tests.{not-true, not-false}
 use Rattle.base.specs.Test.{◌and◌}
 use Rattle.asm_faults.specs.Groups.{label_right}
 use Rattle.asm_faults.proofs.labels.label_right.Goals as goal

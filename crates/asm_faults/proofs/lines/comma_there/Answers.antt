@@ -1,6 +1,5 @@
 -- `asm_faults::lines::comma_there` meets its contract: each return rewrites with the tests that led there.
 use mathlib.Core.Path.{sym, ◌∙◌}
-use borrow.Author.Tests.{not-true, not-false}
 use Rattle.base.specs.Test.{◌or◌}
 use Rattle.language.specs.Fault.{comma_there}
 use Rattle.asm_faults.proofs.lines.comma_there.Goals as goal

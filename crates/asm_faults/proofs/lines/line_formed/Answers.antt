@@ -1,6 +1,6 @@
 -- `asm_faults::lines::line_formed` meets its contract: each return rewrites with the tests that led there.
 use mathlib.Core.Path.{refl, sym, ◌∙◌}
-use borrow.Author.Tests.{le-leb, lt-leb, not-true, not-false}
+use borrow.Author.Tests.{le-leb, lt-leb}
 use lib.ListN.{length}
 use Rattle.base.specs.Test.{◌and◌}
 use Rattle.language.specs.Fault.{bytes_printed, line_short}

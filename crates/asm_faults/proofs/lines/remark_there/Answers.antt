@@ -1,6 +1,5 @@
 -- `asm_faults::lines::remark_there` meets its contract: each return rewrites with the tests that led there.
 use mathlib.Core.Path.{sym, ◌∙◌}
-use borrow.Author.Tests.{not-true, not-false}
 use Rattle.base.specs.Test.{◌or◌}
 use Rattle.language.specs.Fault.{remark_there}
 use Rattle.asm_faults.proofs.lines.remark_there.Goals as goal

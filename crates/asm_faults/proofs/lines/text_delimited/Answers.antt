@@ -1,6 +1,5 @@
 -- `asm_faults::lines::text_delimited` meets its contract: each return rewrites with the tests that led there.
 use mathlib.Core.Path.{sym, ◌∙◌}
-use borrow.Author.Tests.{not-true, not-false}
 use Rattle.base.specs.Test.{◌or◌}
 use Rattle.language.specs.Fault.{text_delimited}
 use Rattle.asm_faults.proofs.lines.text_delimited.Goals as goal

@@ -1,6 +1,5 @@
 -- `asm_faults::operands::lists_right` meets its contract: each return rewrites with the tests that led there.
 use mathlib.Core.Path.{sym, ◌∙◌}
-use borrow.Author.Tests.{not-true, not-false}
 use Rattle.base.specs.Test.{◌and◌}
 use Rattle.asm_faults.specs.Groups.{lists_right}
 use Rattle.asm_faults.proofs.operands.lists_right.Goals as goal

@@ -1,6 +1,5 @@
 -- `asm_faults::operands::operands_right` meets its contract: each return rewrites with the tests that led there.
 use mathlib.Core.Path.{sym, ◌∙◌}
-use borrow.Author.Tests.{not-true, not-false}
 use Rattle.base.specs.Test.{◌and◌}
 use Rattle.language.specs.Fault.{operands_fit}
 use Rattle.asm_faults.specs.Groups.{operands_right}

@@ -1,6 +1,6 @@
 -- `asm_operands::operands::combined`: each return rewrites with the tests that led there.
 use mathlib.Core.Path.{◌∙◌, refl, sym}
-use borrow.Author.Tests.{le-leb, lt-leb, not-false, not-true}
+use borrow.Author.Tests.{le-leb, lt-leb}
 use Rattle.base.specs.Test.{if}
 use Rattle.language.specs.Operand.{subtracted, summed}
 use Rattle.asm_operands.specs.LineCard.{combined_by}

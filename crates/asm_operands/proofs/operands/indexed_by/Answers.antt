@@ -1,6 +1,5 @@
 -- `asm_operands::operands::indexed_by`: each arm is the clause of its term.
 use mathlib.Core.Path.{◌∙◌, refl}
-use Rattle.language.specs.Symbol.{meaning}
 use Rattle.asm_operands.proofs.operands.indexed_by.Goals as goal
 
 pub returns-in-Constant : goal.returns-in-Constant

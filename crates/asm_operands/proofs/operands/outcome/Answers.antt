@@ -1,8 +1,7 @@
 -- `asm_operands::operands::outcome`: each return rewrites with the tests that led there.
 use mathlib.Core.Path.{◌∙◌, refl, sym}
-use borrow.Author.Tests.{not-false, not-true}
 use Rattle.base.specs.Test.{if}
-use Rattle.language.specs.Operand.{operand_of, resolved, takes}
+use Rattle.language.specs.Operand.{operand_of}
 use Rattle.asm_operands.proofs.operands.outcome.Goals as goal
 
 pub returns-then-not-takes : goal.returns-then-not-takes

@@ -3,7 +3,6 @@ use mathlib.Core.Path.{◌∙◌, refl}
 use mathlib.Core.Bool.{false, true}
 use Rattle.base.specs.Test.{if}
 use Rattle.language.specs.Operand.{signed_within, subtracted, summed, term_by}
-use Rattle.language.specs.Symbol.{meaning}
 use Rattle.asm_types.specs.Views.{symbols_in, term_view}
 use Rattle.asm_operands.specs.LineCard.{combined_by, star_of}
 use Rattle.asm_operands.proofs.Laws.{both_by}

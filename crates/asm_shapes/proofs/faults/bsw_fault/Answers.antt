@@ -2,7 +2,6 @@
 use Rattle.asm_shapes.proofs.Smallest.{pair-first, pair-none, pair-second}
 use Rattle.shape_core.specs.Counted.{list_ok}
 use Rattle.rules.specs.Number.{bad_list}
-use borrow.Author.Tests.{not-true, not-false}
 use mathlib.Core.Path.{sym, ◌∙◌}
 use Rattle.asm_shapes.proofs.faults.bsw_fault.Goals as goal
 

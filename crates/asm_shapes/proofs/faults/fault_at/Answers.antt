@@ -3,7 +3,6 @@ use Rattle.asm_shapes.proofs.Smallest.{faults-small, fields-broken, fields-lawfu
 use Rattle.asm_shapes.specs.Shared.{shared}
 use Rattle.rules.specs.Check.{class_rules}
 use Rattle.rules.specs.Table.{class_at}
-use borrow.Author.Tests.{not-true, not-false}
 use native.Mathlib.Omega.{arith}
 use mathlib.Core.Path.{sym, ap, ◌∙◌}
 use Rattle.asm_shapes.proofs.faults.fault_at.Goals as goal

@@ -1,7 +1,6 @@
 -- `asm_shapes::faults::list_fault` meets its contract: the list is judged before the place past it.
 use Rattle.asm_shapes.proofs.ByClass.{list-broken, list_lawful, list-stuck}
 use Rattle.rules.specs.Check.{reaches}
-use borrow.Author.Tests.{not-true, not-false}
 use Prim.Native.Nat.{ℕ, ◌+◌}
 use mathlib.Core.Path.{sym, ap, ◌∙◌}
 use Rattle.asm_shapes.proofs.faults.list_fault.Goals as goal

@@ -1,6 +1,5 @@
 -- `asm_shapes::faults::shared_fault` meets its contract: a fault by the class is never above 7.
 use Rattle.asm_shapes.proofs.Smallest.{shared-given, shared-near, shared-none, shared_start}
-use borrow.Author.Tests.{not-true, not-false}
 use mathlib.Core.Path.{sym, ◌∙◌}
 use Rattle.asm_shapes.proofs.faults.shared_fault.Goals as goal
 

@@ -1,7 +1,6 @@
 -- `assembler::finish::finish` meets its contract: the refusals in their order, and the table is written only by the last call.
 use Rattle.assembler.proofs.Tables.{entries-are, judged-by, laid-is, short-table, size_is}
 use Rattle.assembler.proofs.Endings.{broken-ends, done-ends, incomplete-ends, over-ends, short-ends}
-use borrow.Author.Tests.{not-false, not-true}
 use native.Mathlib.Omega.{arith}
 use mathlib.Core.Path.{◌∙◌}
 use Rattle.assembler.proofs.finish.finish.Goals as goal

@@ -1,6 +1,5 @@
 -- `assembler::finish::is_complete` meets its contract: three tests in their order.
 use Rattle.shape_core.proofs.Tests.{and_no, and_yes}
-use borrow.Author.Tests.{not-false, not-true}
 use mathlib.Core.Path.{sym, ◌∙◌}
 use Rattle.assembler.proofs.finish.is_complete.Goals as goal
 

@@ -1,7 +1,6 @@
 -- `assembler::shape::is_judged` meets its contract: all operands are given, and the count is known.
 use Rattle.language.specs.Fault.{is_judged}
 use Rattle.shape_core.proofs.Tests.{and_no, and_yes}
-use borrow.Author.Tests.{not-false, not-true}
 use native.Mathlib.Omega.{arith}
 use mathlib.Core.Path.{sym, ◌∙◌}
 use Rattle.assembler.proofs.shape.is_judged.Goals as goal

@@ -1,7 +1,6 @@
 -- `assembler::shape::shape_fault` meets its contract: a card that holds no place has none.
 use Rattle.language.specs.Fault.{shape_fault}
 use Rattle.base.proofs.Bool.{if_no, if_yes}
-use borrow.Author.Tests.{not-false, not-true}
 use mathlib.Core.Path.{sym, ◌∙◌}
 use Rattle.assembler.proofs.shape.shape_fault.Goals as goal
 

@@ -30,7 +30,7 @@ loop-left-preserved c = (
   omega arith,
   c.mark-spent.auto.marks ∙ c.loop-left.invariant.1,
   distinct-back c.args.table.now c.args.limit c.args.p c.args.k c.loop-left.left c.loop-left-test.true (claimed (fresh_at c.args.table.now c.args.limit (c.args.p + (c.args.k - c.loop-left.left - 1)) c.loop-left.left) c.in-Holds.is c.look-found.ensures) c.loop-left.invariant.2,
-  marked-back c.args.table.now c.args.limit c.args.p c.args.k c.loop-left.left c.mark-spent.new.1.0 c.loop-left-test.true c.mark-spent.ensures,
+  marked-back c.args.table.now c.args.limit c.args.p c.args.k c.loop-left.left c.mark-spent.new.marks c.loop-left-test.true c.mark-spent.ensures,
 )
 
 pub returns : goal.returns

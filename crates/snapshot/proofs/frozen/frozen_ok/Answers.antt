@@ -2,7 +2,6 @@
 use Prim.Native.Nat.{◌≤◌}
 use mathlib.Core.Path.{◌≡◌, sym, ◌∙◌}
 use native.Mathlib.Omega.{arith}
-use borrow.Author.Tests.{not-true, not-false}
 use Rattle.base.proofs.Bool.{true-ok}
 use Rattle.rules.specs.Snapshot.{frozen_in, frozen_ok, links_in, memory_from, memory_in}
 use Rattle.rules.proofs.Bytes.{length-words_in}

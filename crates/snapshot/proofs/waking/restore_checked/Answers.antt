@@ -1,7 +1,6 @@
 -- `snapshot::waking::restore_checked` meets its contract: each refusal in its place, then memory is copied and its fresh words are supplied.
 use mathlib.Core.Path.{◌≡◌, sym, ap, ◌∙◌}
 use native.Mathlib.Omega.{arith}
-use borrow.Author.Tests.{not-true, not-false}
 use lib.ListN.{length}
 use Rattle.base.proofs.Bool.{test-true, true-ok}
 use Rattle.rules.specs.Snapshot.{memory_in}

@@ -1,8 +1,6 @@
 -- `tables::judge::shape_ok` meets its contract: each return rewrites with the tests that led there.
 use Rattle.tables.specs.Shape.{shape_ok}
 use Rattle.shape_core.proofs.Tests.{and_no, and_yes}
-use borrow.Author.Tests.{not-true, not-false}
-use mathlib.Core.Bool.{true, false}
 use mathlib.Core.Path.{sym, ◌∙◌}
 use Rattle.tables.proofs.judge.shape_ok.Goals as goal
 

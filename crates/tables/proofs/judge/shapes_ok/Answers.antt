@@ -1,9 +1,7 @@
 -- `tables::judge::shapes_ok` meets its contract: each return rewrites with the tests that led there.
 use Rattle.tables.specs.Shape.{shape_ok}
 use Rattle.table_layout.proofs.Belows.{below-zero, below_more, below_fails}
-use borrow.Author.Tests.{not-true, not-false}
 use native.Mathlib.Omega.{arith}
-use mathlib.Core.Bool.{true, false}
 use mathlib.Core.Path.{◌≡◌, sym, ◌∙◌}
 use Rattle.tables.proofs.judge.shapes_ok.Goals as goal
 

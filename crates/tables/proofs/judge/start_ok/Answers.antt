@@ -1,7 +1,5 @@
 -- `tables::judge::start_ok` meets its contract: each return rewrites with the tests that led there.
 use Rattle.shape_core.proofs.Tests.{or_no, or_yes, not-no, not_yes}
-use borrow.Author.Tests.{not-true, not-false}
-use mathlib.Core.Bool.{true, false}
 use mathlib.Core.Path.{sym, ◌∙◌}
 use Rattle.tables.proofs.judge.start_ok.Goals as goal
 

@@ -4,7 +4,6 @@ use Rattle.rules.specs.Check.{starts_section}
 use lib.Dec.{eqb}
 use Rattle.shape_core.proofs.Tests.{or_no, or_yes}
 use borrow.Author.Tests.{eq-eqb, ne_eqb}
-use mathlib.Core.Bool.{true, false}
 use mathlib.Core.Path.{sym, ap, ◌∙◌}
 use Rattle.tables.proofs.judge.starts_section.Goals as goal
 
