@@ -1,5 +1,7 @@
 -- `host_words::restore_words` meets its contract: the table's check, then the room for a state, then restore's.
+use Rattle.std.proofs.lemmas.Bool.{not_from_false, not_from_true}
 use mathlib.Core.Path.{sym, ◌∙◌}
+use borrow.Author.Tests.{not-true, not-false}
 use Rattle.admission.proofs.Admits.{table-passed}
 use Rattle.host_words.proofs.Freezes.{host-unwoken-table, host-unwoken-words, host-woken, host-unwoken}
 use Rattle.host_words.proofs.restore_words.Goals as goal
@@ -11,7 +13,7 @@ pub returns-then-state-lt-WORDS : goal.returns-then-state-lt-WORDS
 returns-then-state-lt-WORDS c = host-unwoken-words _ _ _ _ _ _ (sym c.check_table.ensures ∙ c.if-not-check_table.false) c.if-state-lt-WORDS.true c.slice_known-1.given c.slice_known-2-1.given
 
 pub restore_checked-r-requires : goal.restore_checked-r-requires
-restore_checked-r-requires c = table-passed _ _ c.check_table.ensures c.if-not-check_table.false
+restore_checked-r-requires c = table-passed _ _ c.check_table.ensures (not_from_true _ c.if-not-check_table.false)
 
 pub returns-then-number-eq-PASSED : goal.returns-then-number-eq-PASSED
 returns-then-number-eq-PASSED c =

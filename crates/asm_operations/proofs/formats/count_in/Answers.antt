@@ -23,11 +23,11 @@ unfolding card_count if
 returns-then-row-eq-NONE-3 c =
     let e = c in
     let d = e in
-    rw (ne_eqb _ 0 d.before.before.if1.false, ne_eqb _ 17 d.if2.false, ne_eqb _ 0 e.if-row-eq-NONE-2.false, eq-eqb _ 0 c.if-row-eq-NONE-3.true)
+    rw (ne_eqb _ 0 d.if-row-eq-NONE.false, ne_eqb _ 17 d.if-row-eq-PRC.false, ne_eqb _ 0 e.if-row-eq-NONE-2.false, eq-eqb _ 0 c.if-row-eq-NONE-3.true)
 
 pub returns : goal.returns
 unfolding card_count if
 returns c =
     let e = c in
     let d = e in
-    rw (ne_eqb _ 0 d.before.before.if1.false, ne_eqb _ 17 d.if2.false, ne_eqb _ 0 e.if-row-eq-NONE-2.false, ne_eqb _ 0 c.if-row-eq-NONE-3.false)
+    rw (ne_eqb _ 0 d.if-row-eq-NONE.false, ne_eqb _ 17 d.if-row-eq-PRC.false, ne_eqb _ 0 e.if-row-eq-NONE-2.false, ne_eqb _ 0 c.if-row-eq-NONE-3.false)

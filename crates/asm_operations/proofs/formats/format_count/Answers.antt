@@ -20,16 +20,16 @@ pub returns-then-k-lt-COUNT : goal.returns-then-k-lt-COUNT
 returns-then-k-lt-COUNT c =
     let k = c in
     let d = k in
-    let a = d.before in
+    let a = d in
     let o = operation_view a.args.o in
     c.count_in-then-k-lt-COUNT.ensures
-    ∙ ap (λ (l : List ℕ). card_count l) (row-operation o _ d.code_of_lem.ensures k.if-n-lt-EMPTY.false _ k.row_index-k.ensures _ a.requires c.if-k-lt-COUNT.true)
+    ∙ ap (λ (l : List ℕ). card_count l) (row-operation o _ d.code_of-n.ensures k.if-n-lt-EMPTY.false _ k.row_index-k.ensures _ a.requires c.if-k-lt-COUNT.true)
     ∙ sym (count_by o)
 
 pub returns : goal.returns
 returns c =
     let k = c in
     let d = k in
-    let a = d.before in
+    let a = d in
     let o = operation_view a.args.o in
-    sym (count_by o ∙ ap (λ (l : List ℕ). card_count l) (row-nowhere o _ d.code_of_lem.ensures k.if-n-lt-EMPTY.false _ k.row_index-k.ensures c.if-k-lt-COUNT.false) ∙ none-count)
+    sym (count_by o ∙ ap (λ (l : List ℕ). card_count l) (row-nowhere o _ d.code_of-n.ensures k.if-n-lt-EMPTY.false _ k.row_index-k.ensures c.if-k-lt-COUNT.false) ∙ none-count)

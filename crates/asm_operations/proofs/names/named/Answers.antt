@@ -10,24 +10,24 @@ unfolding operation_named
 returns-in_default c =
     let f = c in
     let e = f in
-    let g = e.before.begins.ensures in
-    let a = e.before.before in
+    let g = e.begins-from.ensures in
+    let a = e in
     c.assembly_named.ensures
-    ∙ rw (← unknown-from a.args.list.now a.requires a.args.a a.args.b a.args.c _ _ g.0 e.ends.ensures.0 e.ends.ensures.1 e.ends.ensures.2 _ f.find_within-found.ensures (omega arith) (omega arith) c.in_default.is)
+    ∙ rw (← unknown-from a.args.list.now a.requires a.args.a a.args.b a.args.c _ _ g.0 e.ends-to.ensures.0 e.ends-to.ensures.1 e.ends-to.ensures.2 _ f.find_within-found.ensures (omega arith) (omega arith) c.in_default.is)
 
 pub overflow_add-row : goal.overflow_add-row
 overflow_add-row c =
     let f = c in
     let e = f in
-    let g = e.before.begins.ensures in
-    let a = e.before.before in
-    omega (arith, inside-from a.args.list.now a.requires a.args.a a.args.b a.args.c _ _ g.0 e.ends.ensures.0 e.ends.ensures.1 e.ends.ensures.2 _ f.find_within-found.ensures _ c.in-Row.is)
+    let g = e.begins-from.ensures in
+    let a = e in
+    omega (arith, inside-from a.args.list.now a.requires a.args.a a.args.b a.args.c _ _ g.0 e.ends-to.ensures.0 e.ends-to.ensures.1 e.ends-to.ensures.2 _ f.find_within-found.ensures _ c.in-Row.is)
 
 pub returns : goal.returns
 unfolding operation_named
 returns c =
     let f = c in
     let e = f in
-    let g = e.before.begins.ensures in
-    let a = e.before.before in
-    rw (← row_from a.args.list.now a.requires a.args.a a.args.b a.args.c _ _ g.0 e.ends.ensures.0 e.ends.ensures.1 e.ends.ensures.2 _ f.find_within-found.ensures _ c.in-Row.is)
+    let g = e.begins-from.ensures in
+    let a = e in
+    rw (← row_from a.args.list.now a.requires a.args.a a.args.b a.args.c _ _ g.0 e.ends-to.ensures.0 e.ends-to.ensures.1 e.ends-to.ensures.2 _ f.find_within-found.ensures _ c.in-Row.is)

@@ -5,10 +5,11 @@ use Rattle.rules.specs.Table.{body_at, size}
 use Rattle.state_check.proofs.Called.{calls-inside}
 use Rattle.state_check.proofs.Chained.{chain-done, chain-on, chain-over, chain-uncalled, chain-unheld}
 use lib.ListN.{take}
-use mathlib.Core.Logic.{◌⊎◌, ⊎_elim, inl, inr}
+use mathlib.Core.Logic.{◌⊎◌, inl, inr}
 use mathlib.Core.Path.{◌≡◌, refl, sym, ◌∙◌}
 use native.Mathlib.Omega.{arith}
 use borrow.Author.Rules.{rules}
+use Rattle.state_check.proofs.chain.chained.Goals.{then-b-ne0+else-beneath-b, else-b-ne0}
 use Rattle.state_check.proofs.chain.chained.Goals as goal
 
 pub loop-i-init : goal.loop-i-init
@@ -75,7 +76,7 @@ loop-i-preserved c =
     Callee-of.ensures if1.false in
     let b = c.index-b.result in
     let body : b ≡ body_at t index.result = c.index-b.ensures ∙ pre.1.found index.result (omega arith) in
-    let held : (b ≡ 0) ⊎ (loop.beneath ≡ b) = ⊎_elim (λ w. inr w.1.left) (λ w. inl w.left) c.if-b-ne0.branch in (
+    let held : (b ≡ 0) ⊎ (loop.beneath ≡ b) = elim c.if-b-ne0.branch [ then-b-ne0+else-beneath-b w ↦ inr w.if-beneath-b.false | else-b-ne0 w ↦ inl w.if-b-ne0.false ] in (
       omega arith,
       loop.invariant.1 ∙ chain-on t loop.beneath args.k loop.i index.result Callee-of.result l
           (omega arith) (omega arith) index.ensures Callee-of.ensures if1.false b body held,

@@ -1,4 +1,5 @@
 -- `state_check::passing::state_ok_with` meets its contract: each test in the order of the definition. Assumes nothing.
+use Rattle.std.proofs.lemmas.Bool.{not_from_false, not_from_true}
 use Rattle.rules.specs.Table.{size}
 use Rattle.state_check.proofs.Judged.{judged-many, judged-placed, judged-unchained, judged-unfit, judged-unreal}
 use Rattle.bodies.proofs.Places.{entries-of}
@@ -20,7 +21,7 @@ returns-then-not-reals_ok c =
     let index2 = c.index-k in
     let index3 = c.index-p in
     λ mem m. judged-unreal args.t.now mem args.s args.len index2.result index3.result m index2.ensures
-    index3.ensures c.reals_ok.result c.reals_ok.ensures c.if-not-reals_ok.true
+    index3.ensures c.reals_ok.result c.reals_ok.ensures (not_from_false _ c.if-not-reals_ok.true)
 
 pub memory_fits-requires : goal.memory_fits-requires
 memory_fits-requires c =
@@ -34,7 +35,7 @@ returns-then-not-memory_fits c =
     let index2 = c.index-k in
     let index3 = c.index-p in
     λ mem m. judged-unfit args.t.now mem args.s args.len index2.result index3.result m index2.ensures
-    index3.ensures c.memory_fits.result c.memory_fits.ensures c.if-not-memory_fits.true
+    index3.ensures c.memory_fits.result c.memory_fits.ensures (not_from_false _ c.if-not-memory_fits.true)
 
 pub returns-then-k-gt-MAX_LINKS : goal.returns-then-k-gt-MAX_LINKS
 returns-then-k-gt-MAX_LINKS c =
@@ -65,8 +66,8 @@ returns-then-not-chained c =
     let if1 = c.if-not-reals_ok in
     let full : length args.s.links ≡ 256 = search rules in
     λ mem m. judged-unchained args.t.now mem args.s args.len index2.result index3.result m index2.ensures
-    index3.ensures full memory-fits.result memory-fits.ensures if2.false (omega arith) reals-ok.result reals-ok.ensures if1.false
-    c.chained.result c.chained.ensures c.if-not-chained.true
+    index3.ensures full memory-fits.result memory-fits.ensures (not_from_true _ if2.false) (omega arith) reals-ok.result reals-ok.ensures (not_from_true _ if1.false)
+    c.chained.result c.chained.ensures (not_from_false _ c.if-not-chained.true)
 
 pub placed-requires : goal.placed-requires
 unfolding size
@@ -90,5 +91,5 @@ returns c =
     let if4 = c.if-not-chained in
     let full : length args.s.links ≡ 256 = search rules in
     λ mem m. judged-placed args.t.now mem args.s args.len index2.result index3.result m index2.ensures
-    index3.ensures full memory-fits.result memory-fits.ensures if2.false (omega arith) reals-ok.result reals-ok.ensures if1.false chained.result
-    chained.ensures if4.false c.placed.result c.placed.ensures
+    index3.ensures full memory-fits.result memory-fits.ensures (not_from_true _ if2.false) (omega arith) reals-ok.result reals-ok.ensures (not_from_true _ if1.false) chained.result
+    chained.ensures (not_from_true _ if4.false) c.placed.result c.placed.ensures
