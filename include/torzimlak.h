@@ -1,7 +1,7 @@
 /*
  * Torzimlak: a proved virtual machine for MINIMAL.
  *
- * Link with libhost.a, which `rt staticlib host` builds into target/staticlib, for x86-64. It needs memcpy and memset of the C library,
+ * Link with libhost.a, which `tools/build library` builds into target/staticlib, for x86-64. It needs memcpy and memset of the C library,
  * and nothing else.
  *
  * Every function may be given any words and bytes; it ends, touches nothing but what it is lent, and a refused call changes no lent word
