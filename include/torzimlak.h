@@ -1,7 +1,7 @@
 /*
  * Torzimlak: a proved virtual machine for MINIMAL.
  *
- * Link with libhost.a, which `rt staticlib host` builds into target/staticlib, for x86-64. It needs memcpy and memset of the C library,
+ * Link with libhost.a, which `tools/build library` builds into target/staticlib, for x86-64. It needs memcpy and memset of the C library,
  * and nothing else.
  *
  * Every function may be given any words and bytes; it ends, touches nothing but what it is lent, and a refused call changes no lent word
@@ -73,9 +73,9 @@ enum {
 };
 
 /*
- * Bytes of stack that are enough for a call of torzimlak_assemble, and of each other function. The code itself takes at most 1,079,320
- * bytes, torzimlak_run 21,032, torzimlak_resume 19,864, each other function under 19,000; the rest is for memcpy and memset, of which a
- * loader that binds them at their first call takes some thousands.
+ * Bytes of stack that are enough for a call of torzimlak_assemble, and of each other function. The code, as an older kit compiled it, takes
+ * at most 1,079,320 bytes, torzimlak_run 21,032, torzimlak_resume 19,864, each other function under 19,000; the rest is for memcpy and
+ * memset, of which a loader that binds them at their first call takes some thousands.
  */
 enum {
     TORZIMLAK_ASSEMBLE_STACK = 1114112,

@@ -409,6 +409,7 @@ try 1 '' "torzimlak: the command is not built yet, and $away/target/torzimlak.lo
 rm -r "$away/target"
 printf '#!/bin/sh\necho no proof\nexit 1\n' > ../bin/rt
 cp -R "$top/tools" "$away"
+mkdir -p "$away/crates/tool"
 echo 'tool: io' > "$away/crates.txt"
 building="torzimlak: building the command, which is proved first; $away/target/torzimlak.log has what the prover says
 torzimlak: proving crate 1 of 1, under a minute so far"
@@ -418,8 +419,8 @@ torzimlak: the build failed; $away/target/torzimlak.log has all that was said" e
 same 'the log of the build' "$(cat "$away/target/torzimlak.log")" 'no proof'
 printf '#!/bin/sh\nexit 0\n' > ../bin/rt
 try 1 '' "$building
-torzimlak: the build left no $away/target/bin/tool; remove $away/target and try again" env PATH="$work/bin:/usr/bin:/bin" "$away/torzimlak" help
-printf '#!/bin/sh\nmkdir -p target/bin\nprintf "#!/bin/sh\\necho built: \\"\\$@\\"\\n" > target/bin/tool\nchmod +x target/bin/tool\n' > ../bin/rt
+torzimlak: the build left no $away/crates/tool/out/tool; remove $away/crates/tool/out and try again" env PATH="$work/bin:/usr/bin:/bin" "$away/torzimlak" help
+printf '#!/bin/sh\nmkdir -p out\nprintf "#!/bin/sh\\necho built: \\"\\$@\\"\\n" > out/tool\nchmod +x out/tool\n' > ../bin/rt
 try 0 'built: run a deck' "$building" env PATH="$work/bin:/usr/bin:/bin" "$away/torzimlak" run 'a deck'
 try 0 'built: run a deck' '' env PATH=/usr/bin:/bin "$away/torzimlak" run 'a deck'
 

@@ -1,7 +1,7 @@
 #!/bin/sh
 # Tries what the pages say: README's deck prints what stands below it; the theorems and functions that README and docs/PROOFS.md name stand in the files that they
-# name, and every path there is a file's; README names each C function that the command calls; docs/ARCHITECTURE.md and its drawing are those of crates.txt, and
-# tools/architecture tells where they are not. Needs the built command.
+# name, and every path there is a file's; README names each C function that the command calls; examples/ is what the crate vectors runs; docs/ARCHITECTURE.md and its
+# drawing are those of crates.txt, and tools/architecture tells where they are not. Needs the built command.
 # The last line is 'docs.sh: N passed, 0 failed'.
 CDPATH=
 top=$(cd "$(dirname "$0")/.." && pwd -P) || exit 1
@@ -100,7 +100,7 @@ done
 # The C functions that the command calls and README's list of what is assumed leaves out; the compiler's own calls are not among them.
 assumed=$(sed -n '/^## What is assumed/,/^Not proved/p' "$top/README.md")
 unnamed() {
-    nm -D -u "$top/target/bin/tool" | awk '{ sub(/@.*/, "", $NF); print $NF }' | while read -r symbol; do
+    nm -D -u "$top/crates/tool/out/tool" | awk '{ sub(/@.*/, "", $NF); print $NF }' | while read -r symbol; do
         case $symbol in
             _ITM_* | __cxa_finalize | __gmon_start__ | __libc_start_main | memcpy | memset) continue ;;
             __xpg_strerror_r) symbol=strerror_r ;;
@@ -114,6 +114,9 @@ if command -v nm > /dev/null; then
 else
     echo 'docs.sh: skipped, for nm is not here: the C functions that are assumed'
 fi
+
+# The pages' decks are those that the crate vectors runs: a link is not to be had.
+same 'examples/ is crates/vectors/data/examples' "$(diff -r "$top/examples" "$top/crates/vectors/data/examples" 2>&1)" ''
 
 # The drawing and the tables of crates; then the same of a small project with one thing wrong.
 try 'the architecture' 0 '' "$top/tools/architecture" --check

@@ -1,6 +1,6 @@
 #!/bin/sh
-# Tries the gate (.ci/run), tools/gate-times, tools/order, tools/edits, tools/progress, tests/valgrind and the first build of ./torzimlak on copies in a folder of its own, with programs of its own in
-# place of rt, cargo, cc, valgrind and tests/host. Proves nothing and takes some seconds. The last line is 'gate.sh: N passed, 0 failed'.
+# Tries the gate (.ci/run), tools/build, tools/gate-times, tools/order, tools/edits, tools/progress, tests/valgrind and the first build of ./torzimlak on copies in a folder of its own, with programs of
+# its own in place of rt, cargo, cc, valgrind and tests/host. Proves nothing and takes some seconds. The last line is 'gate.sh: N passed, 0 failed'.
 CDPATH=
 top=$(cd "$(dirname "$0")/.." && pwd -P) || exit 1
 work=$(mktemp -d) || exit 1
@@ -47,25 +47,26 @@ $(sed 's/^gate: [0-9]* s$/gate: N s/' ../out)" "$wanted"
 # The gate.
 program ../bin/rt << 'END'
 [ "$*" = ci ] || exit 9
-rm -rf target
-mkdir -p target/bin
-echo 'rt: base proved (1 s)'
+mkdir -p crates/tool/out
+echo 'rt: base proved'
 echo 'rt: told on standard error' >&2
 cat ../verdict
 exit "$(cat ../status)"
 END
 echo 'exit 0' | program ../bin/cargo
 program tests/host << 'END'
-echo "the host: $(ls target)"
+echo "the host: $(ls crates/tool)"
 exit "$(cat ../host)"
 END
-proved='rt: base proved (1 s)
+proved='rt: base proved
 rt: told on standard error'
-echo '7 passed, 0 failed' > ../verdict
+well='rt: ok; handles allowed: none; must-fail edits: 5 refused; every proof and must-fail edit was done in this run'
+printf '%s\n7 passed, 0 failed\n' "$well" > ../verdict
 echo 0 > ../status
 echo 0 > ../host
 try 'both pass' 0 "$proved
-the host: bin
+$well
+the host: out
 gate: N s
 7 passed, 0 failed" bash .ci/run
 same 'the log of a gate' "$(cat target/log/gate)" "$(cat ../out)"
@@ -73,11 +74,13 @@ same 'the log of a gate' "$(cat target/log/gate)" "$(cat ../out)"
 same 'from another folder' "$(tail -n 1 ../elsewhere)" '7 passed, 0 failed'
 echo 3 > ../host
 try 'the host tests fail' 1 "$proved
-the host: bin
+$well
+the host: out
 gate: N s
 gate: FAILED: the host tests" bash .ci/run
 echo 'exit 1' | program ../bin/cargo
 try 'no cargo' 0 "$proved
+$well
 host tests: skipped, for cargo is not here
 gate: N s
 7 passed, 0 failed" bash .ci/run
@@ -94,6 +97,25 @@ rt: FAILED: base
 6 passed, 1 failed
 gate: N s
 gate: FAILED: rt ci does not end with 'N passed, 0 failed'" bash .ci/run
+bad='rt: ok; handles allowed: none; must-fail edits: 5 refused, 1 of them only by a limit, 2 bad; done in this run: 0 of the 3 proofs'
+printf '%s\n7 passed, 0 failed\n' "$bad" > ../verdict
+try 'an edit is bad' 1 "$proved
+$bad
+7 passed, 0 failed
+gate: N s
+gate: FAILED: bad must-fail edits: 2" bash .ci/run
+limit='rt: ok; handles allowed: none; must-fail edits: 5 refused, 1 of them only by a limit; done in this run: 0 of the 3 proofs'
+printf '%s\n7 passed, 0 failed\n' "$limit" > ../verdict
+try 'an edit is refused by a limit' 0 "$proved
+$limit
+host tests: skipped, for cargo is not here
+gate: N s
+7 passed, 0 failed" bash .ci/run
+echo '7 passed, 0 failed' > ../verdict
+try 'rt ci does not say that all is well' 2 "$proved
+7 passed, 0 failed
+gate: N s
+gate: FAILED: rt ci has no line 'rt: ok'" bash .ci/run
 
 # The table, and what grew.
 printf '# A page\n\nBudget: under 2 minutes now, under 5 later.\n\n<!-- made by tools/gate-times: begin -->\n<!-- made by tools/gate-times: end -->\n\nThe rest.\n' > docs/GATE.md
@@ -102,15 +124,17 @@ try 'no log' 2 "gate-times: $work/a copy/target/log/gate cannot be read" tools/g
 echo 'gate: 5 s' > ../log
 try 'no gate' 2 'gate-times: ../log has no gate in it' tools/gate-times ../log
 cat > ../log << 'END'
+== base
 fn base::one: proved
-rt: base proved (1 s)
-rt: rules proved (6 s)
-rt: old proved (2 s)
-rt: tool proved (50 s)
-rt: must-fail rules/one: refused, as it must be (first at specs/One.antt:3:5; 7 s)
-rt: must-fail rules/two: refused, as it must be (8 s)
-rt: tool ran as nobody, and wrote what its file 'stdout' has (4 s)
-rt: ok, 4 crates proved, 2 must-fail edits refused
+rt: base proved
+rt: rules proved
+rt: rules: trying its must-fail edits (2)
+rt: old is kept: an earlier run on this machine proved the same files over the same libraries
+rt: tool proved
+rt: must-fail rules/one.edit: refused, as it must be: note: specs/One.antt:3:5: error: no
+rt: must-fail rules/two.edit: refused, as it must be
+rt: tool ran, and wrote what its file stdout has
+rt: ok; handles allowed: none; must-fail edits: 2 refused; done in this run: 3 of the 4 proofs (of crates and of their tests) and 2 of the 2 must-fail edits; the others are kept from earlier runs of the same files on this machine
 gate: 119 s
 6 passed, 0 failed
 END
@@ -121,30 +145,27 @@ page='# A page
 Budget: under 2 minutes now, under 5 later.
 
 <!-- made by tools/gate-times: begin -->
-The gate took 119 s; 4 crates, 2 edits.
+The gate took 119 s. Done in it: 3 of the 4 proofs and 2 of the 2 must-fail edits. 4 crates, 2 edits.
 
-| Crate | Check, s | Edits | One edit, s | All edits, s | Sum, s |
-|---|---:|---:|---:|---:|---:|
-| tool | 54 | 0 |  | 0 | 54 |
-| rules | 6 | 2 | 7.5 | 15 | 21 |
-| old | 2 | 0 |  | 0 | 2 |
-| base | 1 | 0 |  | 0 | 1 |
-| **all** | 63 | 2 | 7.5 | 15 | 78 |
+| Crate | Edits |
+|---|---:|
+| rules | 2 |
+| base | 0 |
+| old | 0 |
+| tool | 0 |
 <!-- made by tools/gate-times: end -->
 
 The rest.'
 same 'the page' "$(cat docs/GATE.md)" "$page"
-try 'nothing grew' 0 'all: check 63 s, was 63 s; 2 edits 15 s, were 2 edits 15 s
-gate: 119 s, was 119 s
+try 'nothing changed' 0 'all: 4 crates, were 4; 2 edits, were 2
+gate: 119 s, was 119 s; done in it: 3 of the 4 proofs and 2 of the 2 must-fail edits
 under the budget of 120 s' tools/gate-times ../log
-sed -e 's/^rt: base proved (1 s)/rt: base proved (4 s)/' -e 's/^rt: rules proved (6 s)/rt: rules proved (10 s)/' -e 's/^rt: old/rt: fresh/' \
-    -e 's/; 7 s)/; 70 s)/' -e 's/^gate: 119 s/gate: 120 s/' ../log > ../grown
-try 'what grew' 1 'rules: check 10 s, was 6 s
-rules: 2 edits 78 s, were 2 edits 15 s
-old: gone, check 2 s, 0 edits 0 s
-fresh: new, check 2 s, 0 edits 0 s
-all: check 70 s, was 63 s; 2 edits 78 s, were 2 edits 15 s
-gate: 120 s, was 119 s
+sed -e 's/^rt: old/rt: fresh/' -e '/two.edit/d' -e 's/; done in this run.*/; every proof and must-fail edit was done in this run/' -e 's/^gate: 119 s/gate: 120 s/' ../log > ../grown
+try 'what changed' 1 'rules: 1 edits, were 2
+old: gone, 0 edits
+fresh: new, 0 edits
+all: 4 crates, were 4; 1 edits, were 2
+gate: 120 s, was 119 s; done in it: all
 OVER THE BUDGET of 120 s' tools/gate-times ../grown
 mkdir -p target/log
 cp ../log target/log/gate
@@ -153,63 +174,72 @@ same 'the page is the same' "$(cat docs/GATE.md)" "$page"
 echo 'rt: FAILED: base' >> ../log
 try 'no table of a gate that failed' 2 'gate-times: ../log is of a gate that failed' tools/gate-times --write ../log
 
-# The order of the crates.
-printf '# NAME: the crates that it uses\ntool: rules old io\nold: base\nrules: base\nnew: base\nbase:\n' > crates.txt
+# The order of the crates, and how far a build is, by the older kit's times.
+times='| Crate | Check, s | Edits | One edit, s | All edits, s | Sum, s |
+|---|---:|---:|---:|---:|---:|
+| tool | 54 | 0 |  | 0 | 54 |
+| rules | 6 | 2 | 7.5 | 15 | 21 |
+| old | 2 | 0 |  | 0 | 2 |
+| base | 1 | 0 |  | 0 | 1 |
+| **all** | 63 | 2 | 7.5 | 15 | 78 |'
+echo "$times" > docs/GATE.md
+printf '# NAME: the crates that it uses\ntool: rules old io\nborder staticlib: tool\nold: base\nrules: base\nnew: base\nbase:\n' > crates.txt
 try 'crates in order' 0 '' tools/order
 same 'by levels, the longest first' "$(cat crates.txt)" '# NAME: the crates that it uses
 base:
 new: base
 rules: base
 old: base
-tool: rules old io'
+tool: rules old io
+border staticlib: tool'
 cp crates.txt ../ordered
 try 'crates in order again' 0 '' tools/order
 same 'nothing moves' "$(cat crates.txt)" "$(cat ../ordered)"
 echo 'what is this' >> crates.txt
 try 'a line that is no crate' 2 'tools/order: crates.txt has lines that are no crates' tools/order
 
-# How far a build is.
 printf '# NAME: the crates that it uses\nbase:\nrules: base\nold: base\nother: base\ntool: rules old io\n' > crates.txt
-at() {
-    RT_JOBS=$1 tools/progress tool ../log "$2"
-}
 : > ../log
-same 'nothing is proved' "$(at 1 0)" 'proving crate 1 of 4, under a minute so far, about 1 min left'
-same 'two at a time' "$(at 2 60)" 'proving crate 1 of 4, 1 min so far, about 1 min left'
-printf 'fn base::one: proved\nrt: base proved (unchanged since it was last proved)\nrt: rules proved (60 s)\nrt: old proved (2 s)\n' > ../log
-same 'the last one is under way' "$(at 2 61)" 'proving crate 4 of 4, 1 min so far, under a minute left'
-printf '%s\n' "$page" | sed 's/^| rules | 6 /| rules | 30 /' > docs/GATE.md
-same 'at the pace so far' "$(at 2 61)" 'proving crate 4 of 4, 1 min so far, about 2 min left'
-echo 'rt: tool proved (50 s)' >> ../log
-same 'all is proved' "$(at 2 160)" 'proving crate 4 of 4, 3 min so far, under a minute left'
+same 'nothing is proved' "$(tools/progress tool ../log 0)" 'proving crate 1 of 4, under a minute so far, about 1 min left'
+printf 'rt: base: begins with what a check kept in /a/copy\nonly=0 proved=0\nrt: chose --jobs 2 for base\nfn base::one: proved\nlogic=proved functions=1\n' > ../log
+same 'one is proved' "$(tools/progress tool ../log 61)" 'proving crate 2 of 4, 1 min so far, about 1 min left'
+printf 'rt: chose --jobs 2 for old\nfn old::one: proved\n' >> ../log
+same 'what was proved before is passed over' "$(tools/progress tool ../log 61)" 'proving crate 3 of 4, 1 min so far, under a minute left'
+printf 'logic=proved functions=1\nrt: chose --jobs 2 for tool\n' >> ../log
+same 'the last one is under way' "$(tools/progress tool ../log 61)" 'proving crate 4 of 4, 1 min so far, under a minute left'
+echo "$times" | sed 's/^| base | 1 /| base | 30 /; s/^| tool | 54 /| tool | 58 /' > docs/GATE.md
+same 'at the pace so far' "$(tools/progress tool ../log 128)" 'proving crate 4 of 4, 2 min so far, about 2 min left'
+echo 'logic=proved functions=1' >> ../log
+same 'all is proved' "$(tools/progress tool ../log 160)" 'proving crate 4 of 4, 3 min so far, under a minute left'
 rm docs/GATE.md
-same 'no table' "$(at 2 160)" 'proving crate 4 of 4, 3 min so far'
+same 'no table' "$(tools/progress tool ../log 160)" 'proving crate 4 of 4, 3 min so far'
 
 # The first build of the command.
 rm -rf target
+mkdir -p crates/tool/src
+: > crates/tool/src/main.rt
 log="$work/a copy/target/torzimlak.log"
 begins="torzimlak: building the command, which is proved first; $log has what the prover says
 torzimlak: proving crate 1 of 4, under a minute so far"
 program ../bin/rt << 'END'
-[ "$*" = 'check tool' ] || exit 9
+[ "$(basename "$PWD"): $*" = 'tool: run -- help' ] || exit 9
 sleep 1
-echo 'rt: base proved (1 s)'
+echo 'fn base::one: proved'
 echo 'src/lib.rt:3:5: error: this does not hold'
-echo 'rt: rules NOT PROVED (exit 1, 2 s)'
-echo 'rt: tool NOT PROVED: its dependency rules is not proved'
+echo 'rt: the library rules did not build, so nothing above it was checked' >&2
 exit 1
 END
 try 'a build that fails' 1 "$begins
-rt: base proved (1 s)
+fn base::one: proved
 src/lib.rt:3:5: error: this does not hold
-rt: rules NOT PROVED (exit 1, 2 s)
+rt: the library rules did not build, so nothing above it was checked
 torzimlak: the build failed at crate rules; $log has all that was said" ./torzimlak help
 program ../bin/rt << 'END'
-mkdir -p target/bin
-echo half > target/bin/tool
-chmod +x target/bin/tool
-(sleep 5 && echo > ../goes-on) &
-echo > ../begun
+mkdir -p out
+echo half > out/tool
+chmod +x out/tool
+(sleep 5 && echo > ../../../goes-on) &
+echo > ../../../begun
 wait
 END
 ./torzimlak help > ../out 2>&1 &
@@ -223,22 +253,68 @@ $begins
 torzimlak: the build is stopped; the next call goes on with what is proved"
 sleep 5
 same 'nothing of it goes on' "$(ls ../goes-on 2> /dev/null)" ''
-same 'nothing half-written is left' "$(ls target/bin)" ''
+same 'nothing half-written is left' "$(ls crates/tool/out)" ''
 program ../bin/rt << 'END'
-mkdir -p target/bin
-printf '#!/bin/sh\necho "the tool: $*"\n' > target/bin/tool
-chmod +x target/bin/tool
+mkdir -p out
+printf '#!/bin/sh\necho "the tool: $*"\n' > out/tool
+chmod +x out/tool
 END
 try 'the next build' 0 "$begins
 the tool: run a b" ./torzimlak run a b
 try 'no build again' 0 'the tool: help' ./torzimlak help
+
+# What is built is not built again, until a file of a crate has changed.
+program ../bin/rt << 'END'
+echo "rt in $(basename "$PWD"): $*"
+END
+try 'what stands is not built again' 0 '' tools/build tool
+touch -d '2001-01-01' crates/tool/out/tool
+try 'what is older than a source is' 0 'rt in tool: run -- help' tools/build tool
+mkdir -p crates/trial/src
+echo 'the cards' > crates/trial/stdin
+program ../bin/rt << 'END'
+echo "rt in $(basename "$PWD"): $* of $(cat)"
+END
+try 'the trial' 0 'rt in trial: run of the cards' tools/build trial
+try 'no such program' 2 'usage: tools/build tool|trial|library' tools/build vectors
+
+# The library, over what rt ci left, and by rt lib where it left nothing or a source has changed since.
+printf '# NAME: the crates that it uses\nbase:\nhost: base io\ntool: host\nhost_c staticlib: base host\n' > crates.txt
+touch -d '2002-01-01' crates.txt crates/tool/src/main.rt
+mkdir -p crates/host_c/src crates/base/out/rlib/base.rlib crates/host/out/rlib/host.rlib ../kit/bin
+: > crates/base/out/rlib/base.rlib/format
+: > crates/host/out/rlib/host.rlib/format
+touch crates/tool/out/tool
+program ../bin/rt << 'END'
+case "$(basename "$PWD"): $*" in
+    *': doc') echo "$(dirname "$0")/../kit/START-HERE.md" ;;
+    'host_c: lib') mkdir -p out && echo 'by rt lib' > out/libhost_c.a ;;
+    *) exit 9 ;;
+esac
+END
+program ../kit/bin/rattle << 'END'
+[ "$1 $(basename "$PWD")" = 'build host_c' ] || exit 9
+echo "$*" | sed "s|[^ =]*/kit/|KIT/|g"
+for word; do last=$word; done
+echo 'over what rt ci left' > "$last"
+END
+try 'the library, over what rt ci left' 0 'build --crate-name host_c src/lib.rt --extern std=KIT/rlibs/std.rlib -L dependency=KIT/rlibs --extern base=../base/out/rlib/base.rlib --extern host=../host/out/rlib/host.rlib -L dependency=../base/out/rlib -L dependency=../host/out/rlib --antt-project KIT/rattle/logic/antt-project.json --logic-built KIT/logic_built --links host_c= --jobs 2 --crate-type staticlib --toolchain KIT/toolchain --backend llvm -o out/libhost_c.a' tools/build library
+same 'its archive' "$(cat target/staticlib/libhost.a)" 'over what rt ci left'
+: > crates/base/out/rlib/stamp
+try 'the library, over what rt built itself' 0 '' tools/build library
+same 'its archive is of rt lib' "$(cat target/staticlib/libhost.a)" 'by rt lib'
+rm crates/base/out/rlib/stamp
+touch -d '2100-01-01' crates/tool/src/main.rt
+rm target/staticlib/libhost.a
+try 'the library, of changed sources' 0 '' tools/build library
+same 'its archive is of rt lib, too' "$(cat target/staticlib/libhost.a)" 'by rt lib'
 
 # Valgrind's run: what is missing or fails, and a library that is there already.
 cp "$top/tests/valgrind" tests || exit 1
 mkdir -p bindings/rust/tests bindings/c target/staticlib
 : > bindings/rust/tests/one.rs
 : > bindings/rust/tests/two.rs
-tools='cat basename dirname grep head ls mkdir rm sed sh tail'
+tools='awk basename cat cp dirname find grep head ls mkdir rm sed sh tail tr'
 # without PROGRAM: valgrind's run over an old library, with nothing in PATH but plain tools and the programs of here, less that one
 without() {
     rm -rf ../few
@@ -251,10 +327,10 @@ without() {
     PATH=$work/few tests/valgrind
 }
 program ../bin/rt << 'END'
-[ "$*" = 'staticlib host' ] || exit 9
-ls target/staticlib
-[ ! -e ../no-library ] || exit 0
-echo new > target/staticlib/libhost.a
+[ "$(basename "$PWD"): $*" = 'host_c: lib' ] || exit 9
+ls ../../target/staticlib
+[ ! -e ../../../no-library ] || exit 1
+echo new > out/libhost_c.a
 END
 program ../bin/cc << 'END'
 for word; do last=$word; done
@@ -289,7 +365,7 @@ for tool in rt cargo cc valgrind; do
     try "valgrind: no $tool" 1 "valgrind: FAILED: $tool is not here" without $tool
 done
 : > ../no-library
-try 'valgrind: no library' 1 'valgrind: FAILED: rt left no target/staticlib/libhost.a' without nothing
+try 'valgrind: no library' 1 'valgrind: FAILED: the library is not built' without nothing
 rm ../no-library
 : > ../no-crate
 try 'valgrind: cargo fails' 1 'tried: target/c/visitors, share 20

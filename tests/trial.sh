@@ -1,6 +1,6 @@
 #!/bin/sh
 # Tries the trial program on standard input: the reference run, cards that are refused, and input that cannot be read, which is told on standard error
-# and is no refusal. The program has no exit status of its own. Needs target/bin/trial, which `rt check trial` builds. The last line is
+# and is no refusal. The program has no exit status of its own. Needs crates/trial/out/trial, which `tools/build trial` builds. The last line is
 # 'trial: N passed, 0 failed'.
 CDPATH=
 top=$(cd "$(dirname "$0")/.." && pwd -P) || exit 1
@@ -11,9 +11,9 @@ LC_ALL=C
 export LC_ALL
 passed=0
 failed=0
-trial=$top/target/bin/trial
+trial=$top/crates/trial/out/trial
 if [ ! -x "$trial" ]; then
-    echo "trial: FAILED: $trial is missing: run 'rt check trial' first"
+    echo "trial: FAILED: $trial is missing: run 'tools/build trial' first"
     exit 1
 fi
 

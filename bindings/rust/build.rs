@@ -1,4 +1,4 @@
-//! Links the proved library, which `rt staticlib host` builds into target/staticlib of the repository.
+//! Links the proved library, which `tools/build library` builds into target/staticlib of the repository.
 
 use std::path::PathBuf;
 
@@ -9,7 +9,7 @@ fn main() {
     println!("cargo:rerun-if-env-changed=TORZIMLAK_LIBRARY");
     println!("cargo:rerun-if-changed={}", library.display());
     if !library.exists() {
-        println!("cargo:warning={} is missing: run `rt staticlib host` first", library.display());
+        println!("cargo:warning={} is missing: run `tools/build library` first", library.display());
     }
     println!("cargo:rustc-link-search=native={}", folder.display());
     println!("cargo:rustc-link-lib=static=host");

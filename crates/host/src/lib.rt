@@ -1,6 +1,6 @@
 // The checks, the machine and the snapshot as a host calls them, with plain words and bytes for all that is lent [S Numbers the host sees].
 // An answer is a number, 0 or that of a refusal; where there is a value too, the number is the upper half of a u64 and the value the lower.
-// A refusal changes no lent word and no lent byte.
+// A refusal changes no lent word and no lent byte. The crate host_c exports these to C, under the same names.
 #![tactic(auto)]
 
 ghost use Rattle.std.specs.Prelude.{◌≡◌, List, ℕ, length};
@@ -19,8 +19,7 @@ use starting::Mode;
 pub mod cards;
 
 // 0: the table passes its check. 30: it does not. Any words may be asked.
-#[unsafe(no_mangle)]
-pub extern "C" fn torzimlak_check_table(table: &[u32]) -> u32
+pub fn torzimlak_check_table(table: &[u32]) -> u32
     ensures { result ≡ table_number table.now }
 {
     table_number(table)
@@ -28,8 +27,7 @@ pub extern "C" fn torzimlak_check_table(table: &[u32]) -> u32
 
 // 0: a state of these words, with memory of len words, may be run on the table. 30: the table does not pass its check. 31: the words
 // are fewer than a state has, the flag or the waiting word is neither 0 nor 1, or the state does not pass its check.
-#[unsafe(no_mangle)]
-pub extern "C" fn torzimlak_check_state(table: &[u32], len: usize, state: &[u32]) -> u32
+pub fn torzimlak_check_state(table: &[u32], len: usize, state: &[u32]) -> u32
     ensures { (mem : List ℕ) → length mem ≡ len → result ≡ state_number table.now state.now mem }
 {
     state_number(table, len, state)
@@ -38,8 +36,7 @@ pub extern "C" fn torzimlak_check_state(table: &[u32], len: usize, state: &[u32]
 // 0: the program stands at the start of section 4, its words and the host's fresh words in memory and all other words 0, its 270 words of state in
 // what is lent, the host's argument in WA. 30: the table does not pass its check. 31: fewer words are lent than a state has. 10: the length of
 // memory. 43: the count of fresh words.
-#[unsafe(no_mangle)]
-pub extern "C" fn torzimlak_start(
+pub fn torzimlak_start(
     table: &[u32],
     memory: &mut [u32],
     fresh: &[u32],
@@ -52,8 +49,7 @@ pub extern "C" fn torzimlak_start(
 }
 
 // The same but for the words behind the program's own, which stay as lent.
-#[unsafe(no_mangle)]
-pub extern "C" fn torzimlak_warm_start(
+pub fn torzimlak_warm_start(
     table: &[u32],
     memory: &mut [u32],
     fresh: &[u32],
@@ -67,13 +63,7 @@ pub extern "C" fn torzimlak_warm_start(
 
 // Upper half 20 to 29: the ending of a run of at most budget steps; the lower half is how many it took. Upper half 30: the table does not
 // pass its check. 31: the words are no state, or the state does not pass its check. 32: a budget over 1,000,000. A refusal's lower half is 0.
-#[unsafe(no_mangle)]
-pub extern "C" fn torzimlak_run(
-    table: &[u32],
-    memory: &mut [u32],
-    state: &mut [u32],
-    budget: u32,
-) -> u64
+pub fn torzimlak_run(table: &[u32], memory: &mut [u32], state: &mut [u32], budget: u32) -> u64
     ensures { HostRuns table.now state.old memory.old (runs budget) result memory.new state.new }
 {
     run_words(table, memory, state, budget)
@@ -82,13 +72,7 @@ pub extern "C" fn torzimlak_run(
 // The host's answer to the call that the state waits at: an exit, or 0 for no number. 0: the state goes on from there. 26: the exit's PPM
 // has no label, and the state still waits. 30: the table does not pass its check. 31: the words are no state, or the state does not pass its
 // check. 33: the state does not wait, or the exit is above the declared count.
-#[unsafe(no_mangle)]
-pub extern "C" fn torzimlak_resume(
-    table: &[u32],
-    memory: &[u32],
-    state: &mut [u32],
-    exit: u32,
-) -> u32
+pub fn torzimlak_resume(table: &[u32], memory: &[u32], state: &mut [u32], exit: u32) -> u32
     ensures { HostResumes table.now state.old memory.now (resumes exit) result state.new }
 {
     resume_words(table, memory, state, exit)
@@ -96,8 +80,7 @@ pub extern "C" fn torzimlak_resume(
 
 // Upper half 0, lower half L: the machine's file of L bytes stands at the front of the room. Upper half 30: the table does not pass its
 // check. 31: the words are no state, or the state does not pass its check. 45: the room is under L. The lower half of a refusal is 0.
-#[unsafe(no_mangle)]
-pub extern "C" fn torzimlak_write(
+pub fn torzimlak_write(
     table: &[u32],
     memory: &[u32],
     state: &[u32],
@@ -112,8 +95,7 @@ pub extern "C" fn torzimlak_write(
 // 0: the machine at the end of the file is woken, its memory and its 270 words of state in what is lent, with the host's fresh words.
 // 30: the table does not pass its check. 31: fewer words are lent than a state has. 40 the trailer, 41 another program or build,
 // 42 the frozen state, 43 the count of fresh words, 44 the length of memory.
-#[unsafe(no_mangle)]
-pub extern "C" fn torzimlak_restore(
+pub fn torzimlak_restore(
     table: &[u32],
     file: &[u8],
     build: u32,
