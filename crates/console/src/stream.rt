@@ -1,16 +1,38 @@
-// What the system gives a program, the bytes of a stream and its arguments; and why it refused something, on standard error.
-ghost use Rattle.std.specs.Prelude.{◌≤◌, length};
+// What the system gives a program: files, the bytes of a stream, and its arguments; and why it refused something, on standard error.
+ghost use Rattle.std.specs.Prelude.{◌≤◌, length, IfOk};
 ghost use Rattle.io.specs.Counts.{IsPrefixLen};
 
 use crate::page::STDERR_FILENO;
 use asm_text::find_byte;
 use io::write_all;
 use std::env::FillError;
-use std::io::{Cursor, Error, Read, Write};
-use std::rt::Env;
+use std::fs::OpenOptions;
+use std::io::{Cursor, Error, Read, Result, Write};
+use std::rt::{Env, Files};
+use std::str::from_utf8;
 
 // Bytes of the longest text of an error.
 const TEXT: usize = 256;
+
+// The system's numbers of the errors that there is no such argument, that a path is too long, and that bytes are no text.
+const EINVAL: i32 = 22;
+
+const ENAMETOOLONG: i32 = 36;
+
+const EILSEQ: i32 = 84;
+
+// A path as the system's calls take it: text. No other name can be opened.
+pub fn text_of(path: &[u8]) -> Result<&str> {
+    match from_utf8(path) {
+        Ok(text) => Ok(text),
+        Err(_) => Err(Error::from_raw_os_error(EILSEQ)),
+    }
+}
+
+// A file to be read.
+pub fn open_read<R: Files>(rt: &R, path: &[u8]) -> Result<R::File> {
+    OpenOptions::new().read(true).open(rt, text_of(path)?)
+}
 
 // Fills the room from its front until it is full, the stream ends or a read fails, and answers how many bytes it got.
 pub fn read_full<R: Read>(stream: &mut R, room: &mut [u8]) -> usize
@@ -34,6 +56,24 @@ fn read_some<R: Read>(stream: &mut R, room: &mut [u8]) -> usize
     match stream.read(room) {
         Ok(n) => n,
         Err(_) => 0,
+    }
+}
+
+// Why an argument could not be read.
+fn error_of(why: FillError) -> Error {
+    match why {
+        FillError::NotPresent => Error::from_raw_os_error(EINVAL),
+        FillError::TooLong => Error::from_raw_os_error(ENAMETOOLONG),
+    }
+}
+
+// Argument i at the front of the room: its length, or why it is not there whole.
+pub fn whole_arg<E: Env>(rt: &E, i: usize, room: &mut [u8]) -> Result<usize>
+    ensures { IfOk result (λ n. IsPrefixLen n room.new) }
+{
+    match rt.arg(i, room) {
+        Ok(n) => Ok(n),
+        Err(why) => Err(error_of(why)),
     }
 }
 

@@ -6,9 +6,7 @@ ghost use Rattle.std.specs.Prelude.{◌≤◌, length};
 use asm_text::{BLANK, find_byte};
 use check::same;
 use console::lines::line_of;
-use console::stream::{arg, arg_count, fail};
-use std::env::FillError;
-use std::io::Error;
+use console::stream::{arg, arg_count, fail, whole_arg};
 use std::rt::Env;
 use tool_files::tell;
 use tool_forms::{say, warn};
@@ -27,11 +25,6 @@ pub enum Task {
 
 // The most files that a command takes.
 const MOST_FILES: usize = 8;
-
-// The system's numbers of the errors that there is no such argument, and that a path is too long.
-const EINVAL: i32 = 22;
-
-const ENAMETOOLONG: i32 = 36;
 
 fn help<P: Print>(rt: &P) {
     say(
@@ -170,25 +163,17 @@ fn takes(line: &[u8], files: usize, count: usize) -> bool
     true
 }
 
-// Why an argument could not be read.
-fn error_of(why: FillError) -> Error {
-    match why {
-        FillError::NotPresent => Error::from_raw_os_error(EINVAL),
-        FillError::TooLong => Error::from_raw_os_error(ENAMETOOLONG),
-    }
-}
-
 // Whether argument i can be a path; one that is empty or too long is told of under its name.
 fn has_path<E: Env>(rt: &E, i: usize, name: &[u8]) -> bool {
     let mut room = io::buffer();
-    match rt.arg(i, &mut room) {
+    match whole_arg(rt, i, &mut room) {
         Ok(0) => {
             tell(name, b"the name of the file is empty");
             false
         }
         Ok(_) => true,
-        Err(why) => {
-            fail(name, error_of(why));
+        Err(error) => {
+            fail(name, error);
             false
         }
     }

@@ -4,34 +4,17 @@
 ghost use Rattle.std.specs.Prelude.{◌≤◌, length};
 ghost use Rattle.io.specs.Counts.{IsPrefixLen};
 
-use console::stream::{fail, read_full};
+use console::stream::{fail, open_read, read_full, text_of};
 use std::fs::{OpenFile, OpenOptions, remove_file, rename, symlink_metadata};
 use std::io::{Error, ErrorKind, Read, Result, Write};
 use std::random::RandomSource;
 use std::rt::Files;
-use std::str::from_utf8;
 use tool_forms::{put_form, warn};
 use words::word_of;
-
-// The system's number of the error that bytes are no text.
-const EILSEQ: i32 = 84;
 
 // A line on standard error: the file, and what is wrong with it.
 pub fn tell(path: &[u8], what: &[u8]) {
     warn(b"%: $\n", path, what, &[]);
-}
-
-// A path as the system's calls take it: text. No other name can be opened.
-fn text_of(path: &[u8]) -> Result<&str> {
-    match from_utf8(path) {
-        Ok(text) => Ok(text),
-        Err(_) => Err(Error::from_raw_os_error(EILSEQ)),
-    }
-}
-
-// A file to be read.
-fn open_read<R: Files>(rt: &R, path: &[u8]) -> Result<R::File> {
-    OpenOptions::new().read(true).open(rt, text_of(path)?)
 }
 
 // A file to be read and written, which keeps its bytes.

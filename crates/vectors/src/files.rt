@@ -5,20 +5,9 @@ ghost use Rattle.io.specs.Counts.{IsPrefixLen};
 use super::references::tell_reference;
 use super::telling::{end_line, say};
 use assembler::{Assembled, MAX_TABLE, assemble, line, number};
-use console::stream::{arg_count, fail, read_full};
+use console::stream::{arg_count, fail, open_read, read_full, whole_arg};
 use report::{run_cards, tell};
-use std::env::FillError;
-use std::fs::OpenOptions;
-use std::io::{Error, Result};
 use std::rt::{Env, Files};
-use std::str::from_utf8;
-
-// The system's numbers of the errors that there is no such argument, that a path is too long, and that bytes are no text.
-const EINVAL: i32 = 22;
-
-const ENAMETOOLONG: i32 = 36;
-
-const EILSEQ: i32 = 84;
 
 // The bytes of a file at the front of the room; how many they are. None, and the failure told, where it cannot be opened. A text that fills the room is
 // too long in any case.
@@ -31,14 +20,6 @@ fn read_file<R: Files>(rt: &R, path: &[u8], room: &mut [u8]) -> usize
             fail(path, error);
             0
         }
-    }
-}
-
-// A file to be read. The system's calls take a path that is text.
-fn open_read<R: Files>(rt: &R, path: &[u8]) -> Result<R::File> {
-    match from_utf8(path) {
-        Ok(text) => OpenOptions::new().read(true).open(rt, text),
-        Err(_) => Err(Error::from_raw_os_error(EILSEQ)),
     }
 }
 
@@ -85,19 +66,11 @@ fn tell_file<R: Files>(rt: &R, sort: u8, at: usize, path: &[u8]) {
     }
 }
 
-// Why an argument could not be read.
-fn error_of(why: FillError) -> Error {
-    match why {
-        FillError::NotPresent => Error::from_raw_os_error(EINVAL),
-        FillError::TooLong => Error::from_raw_os_error(ENAMETOOLONG),
-    }
-}
-
 fn on_argument<R: Env + Files>(rt: &R, sort: u8, at: usize, i: usize) {
     let mut path = io::buffer();
-    match rt.arg(i, &mut path) {
+    match whole_arg(rt, i, &mut path) {
         Ok(n) => tell_file(rt, sort, at, &path[..n]),
-        Err(why) => fail(b"argument", error_of(why)),
+        Err(error) => fail(b"argument", error),
     }
 }
 
