@@ -15,8 +15,8 @@ returns-then-c-eq0 c = rw (fresh-by (card_view c.args.c c.args.s.now), eq-eqb _ 
 
 pub returns-then-not-begins_fresh : goal.returns-then-not-begins_fresh
 unfolding ◌and◌
-returns-then-not-begins_fresh c = rw (fresh-by (card_view c.args.c c.args.s.now), eq-eqb _ 4 c.if-c-ne-SECTION_3.false, ne_eqb _ 0 c.if-c-eq0.false, ← c.begins_fresh.ensures, not-true c.begins_fresh.result c.if-not-begins_fresh.true)
+returns-then-not-begins_fresh c = rw (fresh-by (card_view c.args.c c.args.s.now), eq-eqb _ 4 c.if-c-ne-SECTION_3.false, ne_eqb _ 0 c.if-c-eq0.false, ← c.begins_fresh.ensures, c.if-not-begins_fresh.true)
 
 pub returns : goal.returns
 unfolding ◌and◌
-returns c = rw (fresh-by (card_view c.args.c c.args.s.now), eq-eqb _ 4 c.if-c-ne-SECTION_3.false, ne_eqb _ 0 c.if-c-eq0.false, ← c.begins_fresh.ensures, not-false c.begins_fresh.result c.if-not-begins_fresh.false, ← c.word_count.ensures.0)
+returns c = rw (fresh-by (card_view c.args.c c.args.s.now), eq-eqb _ 4 c.if-c-ne-SECTION_3.false, ne_eqb _ 0 c.if-c-eq0.false, ← c.begins_fresh.ensures, c.if-not-begins_fresh.false, ← c.word_count.ensures.0)

@@ -1,4 +1,5 @@
 -- `asm_cards::past` meets its contract: each count by its function.
+use Rattle.language.specs.Card as Cards
 use Rattle.asm_cards.proofs.past.Goals as goal
 
 pub returns : goal.returns

@@ -1,4 +1,5 @@
 -- `asm_names::label_of` meets its contract: each return rewrites with the tests that led there.
+use Rattle.language.specs.Text as Text
 use mathlib.Core.Path.{◌≡◌, sym, ap, ◌∙◌}
 use lib.ListN.{take}
 use Rattle.language.specs.Text.{label_end, label_of, parsed_or, symbol_of}

@@ -11,18 +11,18 @@ returns-then-s-ne-NAME c = rw (ne_eqb _ 5 c.if-s-ne-NAME.true) refl
 
 pub returns-then-not-is_letter : goal.returns-then-not-is_letter
 unfolding symbol_of if ◌and◌
-returns-then-not-is_letter c = rw (eq-eqb _ 5 c.if-s-ne-NAME.false, sym c.is_letter.ensures ∙ not-true _ c.if-not-is_letter.true) refl
+returns-then-not-is_letter c = rw (eq-eqb _ 5 c.if-s-ne-NAME.false, sym c.is_letter.ensures ∙ c.if-not-is_letter.true) refl
 
 pub returns-then-not-later_in_name : goal.returns-then-not-later_in_name
 unfolding symbol_of if ◌and◌
-returns-then-not-later_in_name c = rw (eq-eqb _ 5 c.if-s-ne-NAME.false, sym c.is_letter.ensures ∙ not-false _ c.if-not-is_letter.false, sym c.later_in_name.ensures ∙ not-true _ c.if-not-later_in_name.true) refl
+returns-then-not-later_in_name c = rw (eq-eqb _ 5 c.if-s-ne-NAME.false, sym c.is_letter.ensures ∙ c.if-not-is_letter.false, sym c.later_in_name.ensures ∙ c.if-not-later_in_name.true) refl
 
 pub returns : goal.returns
 unfolding symbol_of if ◌and◌
 returns c =
     rw (
       eq-eqb _ 5 c.if-s-ne-NAME.false,
-      sym c.is_letter.ensures ∙ not-false _ c.if-not-is_letter.false,
-      sym c.later_in_name.ensures ∙ not-false _ c.if-not-later_in_name.false,
+      sym c.is_letter.ensures ∙ c.if-not-is_letter.false,
+      sym c.later_in_name.ensures ∙ c.if-not-later_in_name.false,
       c.pack_name.ensures,
     ) refl

@@ -17,14 +17,14 @@ returns-then-not-passes c =
     let all = symbols_in c.args.syms.now c.args.n in
     let card = card_view c.args.c c.args.s.now in
     test-stop c.args.test (outcomes all card) c.loop-i.i (omega (arith, outcomes-count all card, c.format_count-count.ensures, c.loop-i-test.true))
-    (ap (test_by c.args.test) (sym c.outcome_at.ensures) ∙ sym c.passes.ensures ∙ not-true _ c.if-not-passes.true) ∙ c.loop-i.invariant.0
+    (ap (test_by c.args.test) (sym c.outcome_at.ensures) ∙ sym c.passes.ensures ∙ c.if-not-passes.true) ∙ c.loop-i.invariant.0
 
 pub loop-i-preserved : goal.loop-i-preserved
 loop-i-preserved c =
     let all = symbols_in c.args.syms.now c.args.n in
     let card = card_view c.args.c c.args.s.now in (
       test-more c.args.test (outcomes all card) c.loop-i.i (omega (arith, outcomes-count all card, c.format_count-count.ensures, c.loop-i-test.true))
-          (ap (test_by c.args.test) (sym c.outcome_at.ensures) ∙ sym c.passes.ensures ∙ not-false _ c.if-not-passes.false) ∙ c.loop-i.invariant.0,
+          (ap (test_by c.args.test) (sym c.outcome_at.ensures) ∙ sym c.passes.ensures ∙ c.if-not-passes.false) ∙ c.loop-i.invariant.0,
       search rules,
     )
 

@@ -17,16 +17,16 @@ unfolding forms_of
 returns-then-not-has_text c =
     c.field_count-k.ensures
     ∙ sym (length-forms (is_assembly DRC (operation_view c.args.c.operation)) (texts c.args.s.now))
-    ∙ sym (ap length (all-written (operation_view c.args.c.operation) c.args.s.now (λ e. c.if-format_count-eq0.false (c.format_count.ensures ∙ e)) (sym c.has_text.ensures ∙ not-true _ c.if-not-has_text.true)))
+    ∙ sym (ap length (all-written (operation_view c.args.c.operation) c.args.s.now (λ e. c.if-format_count-eq0.false (c.format_count.ensures ∙ e)) (sym c.has_text.ensures ∙ c.if-not-has_text.true)))
 
 pub returns-then-k-eq0 : goal.returns-then-k-eq0
 unfolding forms_of
 returns-then-k-eq0 c =
-    sym (ap length (first-written (operation_view c.args.c.operation) c.args.s.now (λ e. c.if-format_count-eq0.false (c.format_count.ensures ∙ e)) (sym c.has_text.ensures ∙ not-false _ c.if-not-has_text.false)
+    sym (ap length (first-written (operation_view c.args.c.operation) c.args.s.now (λ e. c.if-format_count-eq0.false (c.format_count.ensures ∙ e)) (sym c.has_text.ensures ∙ c.if-not-has_text.false)
     ∙ first-none (is_assembly DRC (operation_view c.args.c.operation)) (texts c.args.s.now) (sym c.field_count-k.ensures ∙ c.if-k-eq0.true)))
 
 pub returns : goal.returns
 unfolding forms_of
 returns c =
-    sym (ap length (first-written (operation_view c.args.c.operation) c.args.s.now (λ e. c.if-format_count-eq0.false (c.format_count.ensures ∙ e)) (sym c.has_text.ensures ∙ not-false _ c.if-not-has_text.false)
+    sym (ap length (first-written (operation_view c.args.c.operation) c.args.s.now (λ e. c.if-format_count-eq0.false (c.format_count.ensures ∙ e)) (sym c.has_text.ensures ∙ c.if-not-has_text.false)
     ∙ first_some (is_assembly DRC (operation_view c.args.c.operation)) (texts c.args.s.now) (λ e. c.if-k-eq0.false (c.field_count-k.ensures ∙ e))))

@@ -19,12 +19,12 @@ pub returns-then-not-has_text : goal.returns-then-not-has_text
 unfolding operands_formed forms_of
 returns-then-not-has_text c =
     c.field_formed.ensures
-    ∙ sym (ap all_formed (all-written (operation_view c.args.c.operation) c.args.s.now (λ e. c.if-format_count-eq0.false (c.format_count.ensures ∙ e)) (sym c.has_text.ensures ∙ not-true _ c.if-not-has_text.true)))
+    ∙ sym (ap all_formed (all-written (operation_view c.args.c.operation) c.args.s.now (λ e. c.if-format_count-eq0.false (c.format_count.ensures ∙ e)) (sym c.has_text.ensures ∙ c.if-not-has_text.true)))
 
 pub returns-then-field_count-eq0 : goal.returns-then-field_count-eq0
 unfolding operands_formed forms_of
 returns-then-field_count-eq0 c =
-    sym (ap all_formed (first-written (operation_view c.args.c.operation) c.args.s.now (λ e. c.if-format_count-eq0.false (c.format_count.ensures ∙ e)) (sym c.has_text.ensures ∙ not-false _ c.if-not-has_text.false)
+    sym (ap all_formed (first-written (operation_view c.args.c.operation) c.args.s.now (λ e. c.if-format_count-eq0.false (c.format_count.ensures ∙ e)) (sym c.has_text.ensures ∙ c.if-not-has_text.false)
     ∙ first-none (is_assembly DRC (operation_view c.args.c.operation)) (texts c.args.s.now) (sym c.field_count.ensures ∙ c.if-field_count-eq0.true)))
 
 pub returns : goal.returns
@@ -33,5 +33,5 @@ returns c =
     let o = get_or (map (form_by (is_assembly DRC (operation_view c.args.c.operation))) (texts c.args.s.now)) 0 formless in
     ap not (c.is_formless.ensures ∙ ap is_formless c.field_form.ensures ∙ cut-formless o)
     ∙ sym (one-formed o)
-    ∙ sym (ap all_formed (first-written (operation_view c.args.c.operation) c.args.s.now (λ e. c.if-format_count-eq0.false (c.format_count.ensures ∙ e)) (sym c.has_text.ensures ∙ not-false _ c.if-not-has_text.false)
+    ∙ sym (ap all_formed (first-written (operation_view c.args.c.operation) c.args.s.now (λ e. c.if-format_count-eq0.false (c.format_count.ensures ∙ e)) (sym c.has_text.ensures ∙ c.if-not-has_text.false)
     ∙ first_some (is_assembly DRC (operation_view c.args.c.operation)) (texts c.args.s.now) (λ e. c.if-field_count-eq0.false (c.field_count.ensures ∙ e))))

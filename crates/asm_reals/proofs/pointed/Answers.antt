@@ -12,10 +12,6 @@ use Rattle.real_rules.proofs.Decimals.{ten-bounds}
 use Rattle.asm_reals.proofs.Laws.{cut_word, joined-le, pointed-none, pointed-before, pointed-after, no_number, no-digits, both-parts}
 use Rattle.asm_reals.proofs.pointed.Goals as goal
 
--- the number has room
-room : (c : tie.After-power) → c.given.0.0 * c.power.result + c.in-Is-after.b ≤ 2 ^ 53
-room c = joined-le _ _ _ (cut_word (number_of (take c.find_byte-i.result c.args.t.now)) _ (sym (ap parsed_view c.given.1) ∙ c.number_of-before.ensures)) (cut_word (digits (drop (c.find_byte-i.result + 1) c.args.t.now)) _ (sym (ap parsed_view c.in-Is-after.is) ∙ (rw (rest _ _) at c.digits-after.ensures))) (subst (λ (x : ℕ). x ≤ 1000000) (sym c.power.ensures) (ten-bounds _ c.if-k-gt-MAX_AFTER.false).0)
-
 pub returns-then-i-t : goal.returns-then-i-t
 returns-then-i-t c = pointed-none _ _ _ c.find_byte-i.ensures.0 (omega arith)
 
@@ -32,13 +28,17 @@ pub returns-in_default : goal.returns-in_default
 returns-in_default c = no_number _ _ _ c.find_byte-i.ensures.0 (omega (arith, c.find_byte-i.ensures.1, c.if-i-t.false)) c.if-i-gt-MAX_BEFORE.false c.if-k-gt-MAX_AFTER.false (sym (ap parsed_view c.in_default.is) ∙ c.number_of-before.ensures)
 
 pub returns-in_default-after : goal.returns-in_default-after
-returns-in_default-after c = no-digits _ _ _ c.find_byte-i.ensures.0 (omega (arith, c.find_byte-i.ensures.1, c.if-i-t.false)) c.if-i-gt-MAX_BEFORE.false c.if-k-gt-MAX_AFTER.false (sym (ap parsed_view c.given.1) ∙ c.number_of-before.ensures) (sym (ap parsed_view c.in_default-after.is) ∙ (rw (rest _ _) at c.digits-after.ensures))
+returns-in_default-after c = no-digits _ _ _ c.find_byte-i.ensures.0 (omega (arith, c.find_byte-i.ensures.1, c.if-i-t.false)) c.if-i-gt-MAX_BEFORE.false c.if-k-gt-MAX_AFTER.false (sym (ap parsed_view c.in-Is.is) ∙ c.number_of-before.ensures) (sym (ap parsed_view c.in_default-after.is) ∙ (rw (rest _ _) at c.digits-after.ensures))
 
 pub overflow_mul-result : goal.overflow_mul-result
-overflow_mul-result c = omega (arith, room c)
+overflow_mul-result c =
+    let room : c.in-Is.a * c.power.result + c.in-Is-after.b ≤ 2 ^ 53 = joined-le _ _ _ (cut_word (number_of (take c.find_byte-i.result c.args.t.now)) _ (sym (ap parsed_view c.in-Is.is) ∙ c.number_of-before.ensures)) (cut_word (digits (drop (c.find_byte-i.result + 1) c.args.t.now)) _ (sym (ap parsed_view c.in-Is-after.is) ∙ (rw (rest _ _) at c.digits-after.ensures))) (subst (λ (x : ℕ). x ≤ 1000000) (sym c.power.ensures) (ten-bounds _ c.if-k-gt-MAX_AFTER.false).0) in
+    omega (arith, room)
 
 pub overflow_add-result : goal.overflow_add-result
-overflow_add-result c = omega (arith, room c)
+overflow_add-result c =
+    let room : c.in-Is.a * c.power.result + c.in-Is-after.b ≤ 2 ^ 53 = joined-le _ _ _ (cut_word (number_of (take c.find_byte-i.result c.args.t.now)) _ (sym (ap parsed_view c.in-Is.is) ∙ c.number_of-before.ensures)) (cut_word (digits (drop (c.find_byte-i.result + 1) c.args.t.now)) _ (sym (ap parsed_view c.in-Is-after.is) ∙ (rw (rest _ _) at c.digits-after.ensures))) (subst (λ (x : ℕ). x ≤ 1000000) (sym c.power.ensures) (ten-bounds _ c.if-k-gt-MAX_AFTER.false).0) in
+    omega (arith, room)
 
 pub returns : goal.returns
-returns c = both-parts _ _ _ c.find_byte-i.ensures.0 (omega (arith, c.find_byte-i.ensures.1, c.if-i-t.false)) c.if-i-gt-MAX_BEFORE.false c.if-k-gt-MAX_AFTER.false (sym (ap parsed_view c.given.1) ∙ c.number_of-before.ensures) (sym (ap parsed_view c.in-Is-after.is) ∙ (rw (rest _ _) at c.digits-after.ensures)) c.power.ensures
+returns c = both-parts _ _ _ c.find_byte-i.ensures.0 (omega (arith, c.find_byte-i.ensures.1, c.if-i-t.false)) c.if-i-gt-MAX_BEFORE.false c.if-k-gt-MAX_AFTER.false (sym (ap parsed_view c.in-Is.is) ∙ c.number_of-before.ensures) (sym (ap parsed_view c.in-Is-after.is) ∙ (rw (rest _ _) at c.digits-after.ensures)) c.power.ensures

@@ -10,10 +10,10 @@ pub loop-i-init : goal.loop-i-init
 loop-i-init c = (refl, search rules)
 
 pub returns-then-not-within : goal.returns-then-not-within
-returns-then-not-within c = all-stop is_printed _ _ c.loop-i-test.true (sym c.within.ensures ∙ not-true _ c.if-not-within.true) ∙ c.loop-i.invariant.0
+returns-then-not-within c = all-stop is_printed _ _ c.loop-i-test.true (sym c.within.ensures ∙ c.if-not-within.true) ∙ c.loop-i.invariant.0
 
 pub loop-i-preserved : goal.loop-i-preserved
-loop-i-preserved c = (all_more is_printed _ _ c.loop-i-test.true (sym c.within.ensures ∙ not-false _ c.if-not-within.false) ∙ c.loop-i.invariant.0, search rules)
+loop-i-preserved c = (all_more is_printed _ _ c.loop-i-test.true (sym c.within.ensures ∙ c.if-not-within.false) ∙ c.loop-i.invariant.0, search rules)
 
 pub returns : goal.returns
 returns c = all-out is_printed _ _ c.loop-i-test.false ∙ c.loop-i.invariant.0

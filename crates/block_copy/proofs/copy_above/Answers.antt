@@ -27,7 +27,7 @@ pub loop-distance-preserved : goal.loop-distance-preserved
 loop-distance-preserved c =
     let l = c.loop-distance in
     let k = c.copy_apart in
-    (l.invariant.0 ∙ doubled l.left l.distance c.args.from l.m _ l.invariant.2 (omega arith) (omega arith) k.ensures k.auto.0, omega arith, omega arith, k.auto.0 ∙ l.invariant.3)
+    (l.invariant.0 ∙ doubled l.left l.distance c.args.from l.m _ l.invariant.2 (omega arith) (omega arith) k.ensures k.auto.m, omega arith, omega arith, k.auto.m ∙ l.invariant.3)
 
 pub overflow_add-from-2 : goal.overflow_add-from-2
 overflow_add-from-2 c = omega arith
@@ -36,7 +36,7 @@ pub copy_apart-requires-2 : goal.copy_apart-requires-2
 copy_apart-requires-2 c = (omega arith, omega arith, omega arith, λ h. omega arith)
 
 pub shape_of-m : goal.shape_of-m
-shape_of-m c = c.copy_apart-2.auto.0 ∙ c.loop-distance.invariant.3
+shape_of-m c = c.copy_apart-2.auto.m ∙ c.loop-distance.invariant.3
 
 pub returns : goal.returns
 returns c = c.copy_apart-2.ensures ∙ sym c.loop-distance.invariant.0

@@ -4,13 +4,13 @@ use Rattle.block_chars.proofs.Laws.{char-lt}
 use Rattle.block_table.proofs.translate_long.Goals as goal
 
 pub raise-requires : goal.raise-requires
-raise-requires c = (omega (arith, c.fill.auto.1.1.0), omega arith, λ i h. omega (arith, c.fill.ensures i h, char-lt c.args.m.now (c.args.to + i)))
+raise-requires c = (omega (arith, c.fill.auto.list), omega arith, λ i h. omega (arith, c.fill.ensures i h, char-lt c.args.m.now (c.args.to + i)))
 
 pub raise-requires-2 : goal.raise-requires-2
-raise-requires-2 c = (omega (arith, c.raise.auto.1.0), omega arith, λ i h. omega (arith, c.raise.ensures i h, c.fill.ensures i h, char-lt c.args.m.now (c.args.to + i)))
+raise-requires-2 c = (omega (arith, c.raise.auto.raised), omega arith, λ i h. omega (arith, c.raise.ensures i h, c.fill.ensures i h, char-lt c.args.m.now (c.args.to + i)))
 
 pub raise-requires-3 : goal.raise-requires-3
-raise-requires-3 c = (omega (arith, c.raise-2.auto.1.0), omega arith, λ i h. omega (arith, c.raise-2.ensures i h, c.raise.ensures i h, c.fill.ensures i h, char-lt c.args.m.now (c.args.to + i)))
+raise-requires-3 c = (omega (arith, c.raise-2.auto.raised), omega arith, λ i h. omega (arith, c.raise-2.ensures i h, c.raise.ensures i h, c.fill.ensures i h, char-lt c.args.m.now (c.args.to + i)))
 
 pub translate_by-requires : goal.translate_by-requires
 translate_by-requires c =
@@ -24,7 +24,7 @@ translate_by-requires c =
       p.2,
       p.3,
       record {
-        room = (omega (arith, f.auto.1.1.0), omega (arith, r1.auto.1.0), omega (arith, r2.auto.1.0), omega (arith, r3.auto.1.0));
+        room = (omega (arith, f.auto.list), omega (arith, r1.auto.raised), omega (arith, r2.auto.raised), omega (arith, r3.auto.raised));
         chars = λ i h. omega (arith, c.fill.ensures i h, char-lt c.args.m.now (c.args.to + i));
         second = r1.ensures;
         third = r2.ensures;

@@ -1,3 +1,12 @@
+use Rattle.ops.specs.Class as Class
+use Rattle.ops.specs.Ops as Op
+use Rattle.exec_bits.proofs.Takes as bits
+use Rattle.exec_blocks.proofs.Takes as blocks
+use Rattle.exec_branches.proofs.Takes as branches
+use Rattle.exec_chars.proofs.Takes as chars
+use Rattle.exec_integers.proofs.Takes as integers
+use Rattle.exec_moves.proofs.Takes as moves
+use Rattle.exec_reals.proofs.Takes as reals
 use mathlib.Core.Path.{refl, sym, ap, ◌∙◌}
 use native.Mathlib.Omega.{arith}
 use Prim.Native.Nat.{ℕ}
@@ -282,7 +291,7 @@ pub chk-requires : goal.chk-requires
 chk-requires c = (stands c.requires c.in-1001.is, roomy-memory c.requires)
 
 pub shape_of-m-in-101 : goal.shape_of-m-in-101
-shape_of-m-in-101 c = c.mov.auto.1.1.0
+shape_of-m-in-101 c = c.mov.auto.m
 
 pub returns-in-101 : goal.returns-in-101
 unfolding rows if
@@ -324,35 +333,35 @@ unfolding rows if
 returns-in-115 c = (c.erb.ensures c.args.c c.args.m.now (open_links c.args.links.now) ∙ controls-step c.requires 115 Class.ERB Op.idle c.in-115.is refl refl, refl)
 
 pub shape_of-m-in-116 : goal.shape_of-m-in-116
-shape_of-m-in-116 c = c.icv.auto.1.1.0
+shape_of-m-in-116 c = c.icv.auto.m
 
 pub returns-in-116 : goal.returns-in-116
 unfolding rows if
 returns-in-116 c = (goes_step c.requires 116 Op.ICV c.in-116.is refl refl c.icv.ensures, refl)
 
 pub shape_of-m-in-117 : goal.shape_of-m-in-117
-shape_of-m-in-117 c = c.dcv.auto.1.1.0
+shape_of-m-in-117 c = c.dcv.auto.m
 
 pub returns-in-117 : goal.returns-in-117
 unfolding rows if
 returns-in-117 c = (goes_step c.requires 117 Op.DCV c.in-117.is refl refl c.dcv.ensures, refl)
 
 pub shape_of-m-in-118 : goal.shape_of-m-in-118
-shape_of-m-in-118 c = c.zer.auto.1.1.0
+shape_of-m-in-118 c = c.zer.auto.m
 
 pub returns-in-118 : goal.returns-in-118
 unfolding rows if
 returns-in-118 c = (goes_step c.requires 118 Op.ZER c.in-118.is refl refl c.zer.ensures, refl)
 
 pub shape_of-m-in-119 : goal.shape_of-m-in-119
-shape_of-m-in-119 c = c.mnz.auto.1.1.0
+shape_of-m-in-119 c = c.mnz.auto.m
 
 pub returns-in-119 : goal.returns-in-119
 unfolding rows if
 returns-in-119 c = (goes_step c.requires 119 Op.MNZ c.in-119.is refl refl c.mnz.ensures, refl)
 
 pub shape_of-m-in-120 : goal.shape_of-m-in-120
-shape_of-m-in-120 c = c.ssl.auto.1.1.0
+shape_of-m-in-120 c = c.ssl.auto.m
 
 pub returns-in-120 : goal.returns-in-120
 unfolding rows if
@@ -374,28 +383,28 @@ unfolding rows if
 returns-in-123 c = (c.jmg.ensures c.args.c c.args.z.now c.args.m.now (open_links c.args.links.now) ∙ controls-step c.requires 123 Class.JMG Op.idle c.in-123.is refl refl, refl)
 
 pub shape_of-m-in-201 : goal.shape_of-m-in-201
-shape_of-m-in-201 c = c.add.auto.1.1.0
+shape_of-m-in-201 c = c.add.auto.m
 
 pub returns-in-201 : goal.returns-in-201
 unfolding rows if
 returns-in-201 c = (goes_step c.requires 201 Op.ADD c.in-201.is refl refl c.add.ensures, refl)
 
 pub shape_of-m-in-202 : goal.shape_of-m-in-202
-shape_of-m-in-202 c = c.sub.auto.1.1.0
+shape_of-m-in-202 c = c.sub.auto.m
 
 pub returns-in-202 : goal.returns-in-202
 unfolding rows if
 returns-in-202 c = (goes_step c.requires 202 Op.SUB c.in-202.is refl refl c.sub.ensures, refl)
 
 pub shape_of-m-in-203 : goal.shape_of-m-in-203
-shape_of-m-in-203 c = c.ica.auto.1.1.0
+shape_of-m-in-203 c = c.ica.auto.m
 
 pub returns-in-203 : goal.returns-in-203
 unfolding rows if
 returns-in-203 c = (goes_step c.requires 203 Op.ICA c.in-203.is refl refl c.ica.ensures, refl)
 
 pub shape_of-m-in-204 : goal.shape_of-m-in-204
-shape_of-m-in-204 c = c.dca.auto.1.1.0
+shape_of-m-in-204 c = c.dca.auto.m
 
 pub returns-in-204 : goal.returns-in-204
 unfolding rows if
@@ -472,7 +481,7 @@ unfolding rows if
 returns-in-214 c = (forks-step c.requires 214 Op.BZE c.in-214.is refl refl c.bze.ensures, refl)
 
 pub shape_of-m-in-215 : goal.shape_of-m-in-215
-shape_of-m-in-215 c = c.lct.auto.1.1.0
+shape_of-m-in-215 c = c.lct.auto.m
 
 pub returns-in-215 : goal.returns-in-215
 unfolding rows if
@@ -483,7 +492,7 @@ unfolding rows if
 returns-in-216 c = (forks-step c.requires 216 Op.BCT c.in-216.is refl refl (c.bct.ensures c.args.c c.args.m.now), refl)
 
 pub shape_of-m-in-217 : goal.shape_of-m-in-217
-shape_of-m-in-217 c = c.aov.auto.1.1.0
+shape_of-m-in-217 c = c.aov.auto.m
 
 pub returns-in-217 : goal.returns-in-217
 unfolding rows if
@@ -532,7 +541,7 @@ unfolding rows if
 returns-in-406 c = (goes_step c.requires 406 Op.RMI c.in-406.is refl refl c.rmi.ensures, refl)
 
 pub shape_of-m-in-407 : goal.shape_of-m-in-407
-shape_of-m-in-407 c = c.sti.auto.1.1.0
+shape_of-m-in-407 c = c.sti.auto.m
 
 pub returns-in-407 : goal.returns-in-407
 unfolding rows if
@@ -582,7 +591,7 @@ unfolding rows if
 returns-in-501 c = (goes_step c.requires 501 Op.LDR c.in-501.is refl refl c.ldr.ensures, refl)
 
 pub shape_of-m-in-502 : goal.shape_of-m-in-502
-shape_of-m-in-502 c = c.str.auto.1.1.0
+shape_of-m-in-502 c = c.str.auto.m
 
 pub returns-in-502 : goal.returns-in-502
 unfolding rows if
@@ -618,7 +627,7 @@ unfolding rows if
 returns-in-603 c = (goes_step c.requires 603 Op.LCH c.in-603.is refl refl (c.lch.ensures c.args.c), refl)
 
 pub shape_of-m-in-604 : goal.shape_of-m-in-604
-shape_of-m-in-604 c = c.sch.auto.1.1.0
+shape_of-m-in-604 c = c.sch.auto.m
 
 pub returns-in-604 : goal.returns-in-604
 unfolding rows if
@@ -650,7 +659,7 @@ unfolding rows if
 returns-in-608 c = (forks-step c.requires 608 Op.CMC c.in-608.is refl refl c.cmc.ensures, refl)
 
 pub shape_of-m-in-609 : goal.shape_of-m-in-609
-shape_of-m-in-609 c = c.trc.auto.1.1.0
+shape_of-m-in-609 c = c.trc.auto.m
 
 pub returns-in-609 : goal.returns-in-609
 unfolding rows if
@@ -731,7 +740,7 @@ unfolding rows if
 returns-in-803 c = (goes_step c.requires 803 Op.MTI c.in-803.is refl refl c.mti.ensures, refl)
 
 pub shape_of-m-in-804 : goal.shape_of-m-in-804
-shape_of-m-in-804 c = c.mfi.auto.1.1.0
+shape_of-m-in-804 c = c.mfi.auto.m
 
 pub returns-in-804 : goal.returns-in-804
 unfolding rows if
@@ -762,14 +771,14 @@ unfolding rows if
 returns-in-812 c = (goes_step c.requires 812 Op.CVD c.in-812.is refl refl (c.cvd.ensures c.args.m.now), refl)
 
 pub shape_of-m-in-901 : goal.shape_of-m-in-901
-shape_of-m-in-901 c = c.mvc.auto.1.1.0
+shape_of-m-in-901 c = c.mvc.auto.m
 
 pub returns-in-901 : goal.returns-in-901
 unfolding rows if
 returns-in-901 c = (goes_step c.requires 901 Op.MVC c.in-901.is refl refl c.mvc.ensures, refl)
 
 pub shape_of-m-in-903 : goal.shape_of-m-in-903
-shape_of-m-in-903 c = c.mvw.auto.1.1.0
+shape_of-m-in-903 c = c.mvw.auto.m
 
 pub returns-in-903 : goal.returns-in-903
 unfolding rows if

@@ -1,3 +1,4 @@
+use Rattle.rules.specs.Operand as Rules
 use native.Mathlib.Omega.{arith}
 use mathlib.Core.Path.{ap}
 use Rattle.rules.specs.Operand.{given}

@@ -6,16 +6,6 @@ use Rattle.lent.proofs.Copies.{state-put}
 use borrow.Author.Rules.{rules}
 use Rattle.lent.proofs.put_state.Goals as goal
 
--- what is known where the function begins
-abbrev Begun : Type 0
-Begun =
-    lts.Start (head-of-reads.Asked, head-of-reads.Learnt, put-words-reads.Asked, put-words-reads.Learnt, tail-of-reads.Asked, tail-of-reads.Learnt)
-    reads.Pre reads.Post
-
--- the state's array has 256 links
-full-links : (c : Begun) → length c.args.s.links ≡ 256
-full-links c = search rules
-
 pub put_words-requires-2 : goal.put_words-requires-2
 put_words-requires-2 c =
     let full : length c.args.s.links ≡ 256 = search rules in
@@ -24,6 +14,6 @@ put_words-requires-2 c =
 pub returns : goal.returns
 returns c =
     let s = c.args.s in
-    let full : length s.links ≡ 256 = full-links c in
+    let full : length c.args.s.links ≡ 256 = search rules in
     state-put _ s _ _ _ _ _ full c.head_of-head.ensures c.tail_of-tail.ensures c.put_words.ensures c.put_words-2.ensures
     c.put_words-3.ensures

@@ -11,11 +11,12 @@ use Rattle.real_rules.specs.Real.{value}
 use Rattle.real_rules.proofs.Laws.{in-float}
 use Rattle.reals.proofs.of_word.Goals as goal
 
-whole : (c : tie.After-row-known) → to_z w64 (of_z w64 c.signed.result) ≡ signed c.args.w
-whole c = to_z-of_z {w = w64} (record { sfits = c.signed.type_inv }) ∙ c.signed.ensures
-
 pub int_to_float-result : goal.int_to_float-result
-int_to_float-result c = subst (λ (n : ℤ). T (in_float binary64 n)) (sym (whole c)) (in-float _ c.ranges.w.fits)
+int_to_float-result c =
+    let whole : to_z w64 (of_z w64 c.signed.result) ≡ signed c.args.w = to_z-of_z {w = w64} (record { sfits = c.signed.type_inv }) ∙ c.signed.ensures in
+    subst (λ (n : ℤ). T (in_float binary64 n)) (sym whole) (in-float _ c.ranges.w.fits)
 
 pub returns : goal.returns
-returns c = ap (λ (n : ℤ). value (of_int binary64 n)) (whole c)
+returns c =
+    let whole : to_z w64 (of_z w64 c.signed.result) ≡ signed c.args.w = to_z-of_z {w = w64} (record { sfits = c.signed.type_inv }) ∙ c.signed.ensures in
+    ap (λ (n : ℤ). value (of_int binary64 n)) whole

@@ -7,7 +7,7 @@ use Rattle.real_rules.proofs.Laws.{bits_below}
 use Rattle.reals.proofs.put.Goals as goal
 
 pub overflow_cast-z-2 : goal.overflow_cast-z-2
-overflow_cast-z-2 c = omega (arith, bits_below c.args.x (subst T (sym c.well-formed.1.0.1) tt))
+overflow_cast-z-2 c = omega (arith, bits_below c.args.x (subst T (sym c.well_formed.1.0.1) tt))
 
 pub returns : goal.returns
 unfolding settled

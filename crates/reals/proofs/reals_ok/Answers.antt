@@ -6,8 +6,8 @@ use Rattle.reals.proofs.reals_ok.Goals as goal
 
 pub returns-then-not-finite_high : goal.returns-then-not-finite_high
 unfolding ◌and◌
-returns-then-not-finite_high c = rw (← c.finite_high.ensures, not-true c.finite_high.result c.if-not-finite_high.true) refl
+returns-then-not-finite_high c = rw (← c.finite_high.ensures, c.if-not-finite_high.true) refl
 
 pub returns : goal.returns
 unfolding ◌and◌
-returns c = rw (← c.finite_high.ensures, not-false c.finite_high.result c.if-not-finite_high.false) refl
+returns c = rw (← c.finite_high.ensures, c.if-not-finite_high.false) refl

@@ -6,7 +6,7 @@ use Rattle.snapshot.proofs.Wakings.{refuses-table}
 use Rattle.snapshot.proofs.restore.Goals as goal
 
 pub returns-then-not-check_table : goal.returns-then-not-check_table
-returns-then-not-check_table c = refuses-table _ _ _ _ _ _ (sym c.check_table.ensures ∙ not-true _ c.if-not-check_table.true) c.refused.ensures
+returns-then-not-check_table c = refuses-table _ _ _ _ _ _ (sym c.check_table.ensures ∙ c.if-not-check_table.true) c.refused.ensures
 
 pub restore_checked-requires : goal.restore_checked-requires
-restore_checked-requires c = true-ok _ (sym c.check_table.ensures ∙ not-false _ c.if-not-check_table.false)
+restore_checked-requires c = true-ok _ (sym c.check_table.ensures ∙ c.if-not-check_table.false)

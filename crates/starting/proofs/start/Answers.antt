@@ -9,28 +9,28 @@ use Rattle.starting.proofs.Starting.{refuses-table, refuses-memory, refuses-supp
 use Rattle.starting.proofs.start.Goals as goal
 
 pub returns-then-not-check_table : goal.returns-then-not-check_table
-returns-then-not-check_table c = refuses-table _ _ _ _ _ _ (sym c.check_table.ensures ∙ not-true _ c.if-not-check_table.true) c.refused.ensures
+returns-then-not-check_table c = refuses-table _ _ _ _ _ _ (sym c.check_table.ensures ∙ c.if-not-check_table.true) c.refused.ensures
 
 pub memory_fits-requires : goal.memory_fits-requires
-memory_fits-requires c = omega (arith, sizes _ (true-ok _ (sym c.check_table.ensures ∙ not-false _ c.if-not-check_table.false)))
+memory_fits-requires c = omega (arith, sizes _ (true-ok _ (sym c.check_table.ensures ∙ c.if-not-check_table.false)))
 
 pub returns-then-not-memory_fits : goal.returns-then-not-memory_fits
-returns-then-not-memory_fits c = refuses-memory _ _ _ _ _ _ (sym c.check_table.ensures ∙ not-false _ c.if-not-check_table.false) (sym c.memory_fits.ensures ∙ not-true _ c.if-not-memory_fits.true) c.refused-then-not-memory_fits.ensures
+returns-then-not-memory_fits c = refuses-memory _ _ _ _ _ _ (sym c.check_table.ensures ∙ c.if-not-check_table.false) (sym c.memory_fits.ensures ∙ c.if-not-memory_fits.true) c.refused-then-not-memory_fits.ensures
 
 pub fresh_count-requires : goal.fresh_count-requires
-fresh_count-requires c = true-ok _ (sym c.check_table.ensures ∙ not-false _ c.if-not-check_table.false)
+fresh_count-requires c = true-ok _ (sym c.check_table.ensures ∙ c.if-not-check_table.false)
 
 pub returns-then-fresh-fresh_count : goal.returns-then-fresh-fresh_count
-returns-then-fresh-fresh_count c = refuses-supply _ _ _ _ _ _ (sym c.check_table.ensures ∙ not-false _ c.if-not-check_table.false) (sym c.memory_fits.ensures ∙ not-false _ c.if-not-memory_fits.false) (rw c.fresh_count.ensures at c.if-fresh-fresh_count.true) c.refused-then-fresh-fresh_count.ensures
+returns-then-fresh-fresh_count c = refuses-supply _ _ _ _ _ _ (sym c.check_table.ensures ∙ c.if-not-check_table.false) (sym c.memory_fits.ensures ∙ c.if-not-memory_fits.false) (rw c.fresh_count.ensures at c.if-fresh-fresh_count.true) c.refused-then-fresh-fresh_count.ensures
 
 pub kept-from-requires : goal.kept-from-requires
-kept-from-requires c = true-ok _ (sym c.check_table.ensures ∙ not-false _ c.if-not-check_table.false)
+kept-from-requires c = true-ok _ (sym c.check_table.ensures ∙ c.if-not-check_table.false)
 
 pub load-requires : goal.load-requires
-load-requires c = (true-ok _ (sym c.check_table.ensures ∙ not-false _ c.if-not-check_table.false), own-fits _ _ (true-ok _ (sym c.memory_fits.ensures ∙ not-false _ c.if-not-memory_fits.false)), c.if-fresh-fresh_count.false ∙ c.fresh_count.ensures)
+load-requires c = (true-ok _ (sym c.check_table.ensures ∙ c.if-not-check_table.false), own-fits _ _ (true-ok _ (sym c.memory_fits.ensures ∙ c.if-not-memory_fits.false)), c.if-fresh-fresh_count.false ∙ c.fresh_count.ensures)
 
 pub fresh-state-requires : goal.fresh-state-requires
-fresh-state-requires c = (true-ok _ (sym c.check_table.ensures ∙ not-false _ c.if-not-check_table.false), rw (c.clear.auto.0, c.load.auto.0) (true-ok _ (sym c.memory_fits.ensures ∙ not-false _ c.if-not-memory_fits.false)))
+fresh-state-requires c = (true-ok _ (sym c.check_table.ensures ∙ c.if-not-check_table.false), rw (c.clear.auto.memory, c.load.auto.memory) (true-ok _ (sym c.memory_fits.ensures ∙ c.if-not-memory_fits.false)))
 
 pub returns : goal.returns
-returns c = begins _ _ _ _ _ _ (sym c.check_table.ensures ∙ not-false _ c.if-not-check_table.false) (sym c.memory_fits.ensures ∙ not-false _ c.if-not-memory_fits.false) _ _ (c.if-fresh-fresh_count.false ∙ c.fresh_count.ensures) (rw (c.fresh-state.ensures, c.clear.auto.0, c.load.auto.0)) c.kept-from.ensures (c.clear.ensures ∙ rw c.load.ensures)
+returns c = begins _ _ _ _ _ _ (sym c.check_table.ensures ∙ c.if-not-check_table.false) (sym c.memory_fits.ensures ∙ c.if-not-memory_fits.false) _ _ (c.if-fresh-fresh_count.false ∙ c.fresh_count.ensures) (rw (c.fresh-state.ensures, c.clear.auto.memory, c.load.auto.memory)) c.kept-from.ensures (c.clear.ensures ∙ rw c.load.ensures)

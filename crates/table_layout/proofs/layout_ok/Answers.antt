@@ -15,29 +15,29 @@ returns-then-table-lt-HEADER c = short-fails c.args.table.now c.if-table-lt-HEAD
 
 pub returns-then-not-limits_ok : goal.returns-then-not-limits_ok
 unfolding layout_ok ◌and◌
-returns-then-not-limits_ok c = rw (← c.limits_ok.ensures, not-true c.limits_ok.result c.if-not-limits_ok.true) refl
+returns-then-not-limits_ok c = rw (← c.limits_ok.ensures, c.if-not-limits_ok.true) refl
 
 pub table_length-requires : goal.table_length-requires
-table_length-requires c = limited c.args.table.now (omega arith) (sym c.limits_ok.ensures ∙ not-false c.limits_ok.result c.if-not-limits_ok.false)
+table_length-requires c = limited c.args.table.now (omega arith) (sym c.limits_ok.ensures ∙ c.if-not-limits_ok.false)
 
 pub returns-then-table-table_length : goal.returns-then-table-table_length
 unfolding layout_ok ◌and◌
-returns-then-table-table_length c = rw (← c.limits_ok.ensures, not-false c.limits_ok.result c.if-not-limits_ok.false, ← c.table_length.ensures, ne_eqb _ _ c.if-table-table_length.true) refl
+returns-then-table-table_length c = rw (← c.limits_ok.ensures, c.if-not-limits_ok.false, ← c.table_length.ensures, ne_eqb _ _ c.if-table-table_length.true) refl
 
 pub returns-then-not-sections_ok : goal.returns-then-not-sections_ok
 unfolding layout_ok ◌and◌
-returns-then-not-sections_ok c = rw (← c.limits_ok.ensures, not-false c.limits_ok.result c.if-not-limits_ok.false, ← c.table_length.ensures, eq-eqb _ _ c.if-table-table_length.false, ← c.sections_ok.ensures, not-true c.sections_ok.result c.if-not-sections_ok.true) refl
+returns-then-not-sections_ok c = rw (← c.limits_ok.ensures, c.if-not-limits_ok.false, ← c.table_length.ensures, eq-eqb _ _ c.if-table-table_length.false, ← c.sections_ok.ensures, c.if-not-sections_ok.true) refl
 
 pub fresh_ok-requires : goal.fresh_ok-requires
-fresh_ok-requires c = laid c.args.table.now (limited c.args.table.now (omega arith) (sym c.limits_ok.ensures ∙ not-false c.limits_ok.result c.if-not-limits_ok.false)) (c.if-table-table_length.false ∙ c.table_length.ensures)
+fresh_ok-requires c = laid c.args.table.now (limited c.args.table.now (omega arith) (sym c.limits_ok.ensures ∙ c.if-not-limits_ok.false)) (c.if-table-table_length.false ∙ c.table_length.ensures)
 
 pub returns-then-not-fresh_ok : goal.returns-then-not-fresh_ok
 unfolding layout_ok constants fresh_count ◌and◌
-returns-then-not-fresh_ok c = rw (← c.limits_ok.ensures, not-false c.limits_ok.result c.if-not-limits_ok.false, ← c.table_length.ensures, eq-eqb _ _ c.if-table-table_length.false, ← c.sections_ok.ensures, not-false c.sections_ok.result c.if-not-sections_ok.false, ← c.fresh_ok.ensures, not-true c.fresh_ok.result c.if-not-fresh_ok.true) refl
+returns-then-not-fresh_ok c = rw (← c.limits_ok.ensures, c.if-not-limits_ok.false, ← c.table_length.ensures, eq-eqb _ _ c.if-table-table_length.false, ← c.sections_ok.ensures, c.if-not-sections_ok.false, ← c.fresh_ok.ensures, c.if-not-fresh_ok.true) refl
 
 pub counts_ok-requires : goal.counts_ok-requires
-counts_ok-requires c = laid c.args.table.now (limited c.args.table.now (omega arith) (sym c.limits_ok.ensures ∙ not-false c.limits_ok.result c.if-not-limits_ok.false)) (c.if-table-table_length.false ∙ c.table_length.ensures)
+counts_ok-requires c = laid c.args.table.now (limited c.args.table.now (omega arith) (sym c.limits_ok.ensures ∙ c.if-not-limits_ok.false)) (c.if-table-table_length.false ∙ c.table_length.ensures)
 
 pub returns : goal.returns
 unfolding layout_ok constants fresh_count externals ◌and◌
-returns c = rw (← c.limits_ok.ensures, not-false c.limits_ok.result c.if-not-limits_ok.false, ← c.table_length.ensures, eq-eqb _ _ c.if-table-table_length.false, ← c.sections_ok.ensures, not-false c.sections_ok.result c.if-not-sections_ok.false, ← c.fresh_ok.ensures, not-false c.fresh_ok.result c.if-not-fresh_ok.false) c.counts_ok.ensures
+returns c = rw (← c.limits_ok.ensures, c.if-not-limits_ok.false, ← c.table_length.ensures, eq-eqb _ _ c.if-table-table_length.false, ← c.sections_ok.ensures, c.if-not-sections_ok.false, ← c.fresh_ok.ensures, c.if-not-fresh_ok.false) c.counts_ok.ensures

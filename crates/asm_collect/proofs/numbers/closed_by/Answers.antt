@@ -10,8 +10,8 @@ returns-then-closed c = λ l. rw c.if-closed.true refl
 
 pub returns-then-not-is_closing : goal.returns-then-not-is_closing
 unfolding ◌or◌ ◌and◌
-returns-then-not-is_closing c = λ l. rw (c.if-closed.false, ← c.is_closing.ensures, not-true c.is_closing.result c.if-not-is_closing.true) refl
+returns-then-not-is_closing c = λ l. rw (c.if-closed.false, ← c.is_closing.ensures, c.if-not-is_closing.true) refl
 
 pub returns : goal.returns
 unfolding ◌or◌ ◌and◌
-returns c = λ l. rw (c.if-closed.false, ← c.is_closing.ensures, not-false c.is_closing.result c.if-not-is_closing.false) refl
+returns c = λ l. rw (c.if-closed.false, ← c.is_closing.ensures, c.if-not-is_closing.false) refl

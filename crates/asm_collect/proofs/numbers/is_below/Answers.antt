@@ -6,8 +6,8 @@ use Rattle.asm_collect.proofs.numbers.is_below.Goals as goal
 
 pub returns-then-not-holds_place : goal.returns-then-not-holds_place
 unfolding ◌and◌
-returns-then-not-holds_place c = λ l. rw (← c.holds_place.ensures l, not-true c.holds_place.result c.if-not-holds_place.true) refl
+returns-then-not-holds_place c = λ l. rw (← c.holds_place.ensures l, c.if-not-holds_place.true) refl
 
 pub returns : goal.returns
 unfolding ◌and◌
-returns c = λ l. rw (← c.holds_place.ensures l, not-false c.holds_place.result c.if-not-holds_place.false) refl
+returns c = λ l. rw (← c.holds_place.ensures l, c.if-not-holds_place.false) refl

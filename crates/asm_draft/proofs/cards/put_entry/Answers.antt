@@ -11,11 +11,11 @@ use Rattle.asm_draft.proofs.cards.put_entry.Goals as goal
 
 pub returns-then-not-holds_place : goal.returns-then-not-holds_place
 unfolding entry_in if
-returns-then-not-holds_place c = rw (sym (c.holds_place.ensures c.args.s.now) ∙ not-true _ c.if-not-holds_place.true) (untouched _ _)
+returns-then-not-holds_place c = rw (sym (c.holds_place.ensures c.args.s.now) ∙ c.if-not-holds_place.true) (untouched _ _)
 
 pub put_eight-requires : goal.put_eight-requires
-put_eight-requires c = omega (arith, entry-long (symbols_in c.args.syms.now c.args.n) (card_view c.args.c c.args.s.now) (sym (c.holds_place.ensures c.args.s.now) ∙ not-false _ c.if-not-holds_place.false), c.requires.2)
+put_eight-requires c = omega (arith, entry-long (symbols_in c.args.syms.now c.args.n) (card_view c.args.c c.args.s.now) (sym (c.holds_place.ensures c.args.s.now) ∙ c.if-not-holds_place.false), c.requires.2)
 
 pub returns : goal.returns
 unfolding entry_in if
-returns c = rw (sym (c.holds_place.ensures c.args.s.now) ∙ not-false _ c.if-not-holds_place.false, ← c.entry_by-ws.ensures) c.put_eight.ensures
+returns c = rw (sym (c.holds_place.ensures c.args.s.now) ∙ c.if-not-holds_place.false, ← c.entry_by-ws.ensures) c.put_eight.ensures

@@ -9,12 +9,12 @@ use Rattle.asm_draft.proofs.cards.put_fresh.Goals as goal
 
 pub returns-then-not-is_fresh : goal.returns-then-not-is_fresh
 unfolding fresh_in if
-returns-then-not-is_fresh c = rw (sym c.is_fresh.ensures ∙ not-true _ c.if-not-is_fresh.true) (untouched _ _)
+returns-then-not-is_fresh c = rw (sym c.is_fresh.ensures ∙ c.if-not-is_fresh.true) (untouched _ _)
 
 pub put-requires : goal.put-requires
 unfolding fresh_in if
-put-requires c = omega (arith, rw (sym c.is_fresh.ensures ∙ not-false _ c.if-not-is_fresh.false) at c.requires.2)
+put-requires c = omega (arith, rw (sym c.is_fresh.ensures ∙ c.if-not-is_fresh.false) at c.requires.2)
 
 pub returns : goal.returns
 unfolding fresh_in if
-returns c = rw (sym c.is_fresh.ensures ∙ not-false _ c.if-not-is_fresh.false) c.put.ensures
+returns c = rw (sym c.is_fresh.ensures ∙ c.if-not-is_fresh.false) c.put.ensures

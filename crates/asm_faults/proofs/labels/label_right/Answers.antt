@@ -7,12 +7,12 @@ use Rattle.asm_faults.proofs.labels.label_right.Goals as goal
 
 pub returns-then-not-label_there : goal.returns-then-not-label_there
 unfolding label_right ◌and◌
-returns-then-not-label_there c = λ l. rw (sym (c.label_there.ensures l) ∙ not-true _ c.if-not-label_there.true)
+returns-then-not-label_there c = λ l. rw (sym (c.label_there.ensures l) ∙ c.if-not-label_there.true)
 
 pub returns-then-not-label_wanted : goal.returns-then-not-label_wanted
 unfolding label_right ◌and◌
-returns-then-not-label_wanted c = λ l. rw (sym (c.label_there.ensures l) ∙ not-false _ c.if-not-label_there.false, sym (c.label_wanted.ensures l) ∙ not-true _ c.if-not-label_wanted.true)
+returns-then-not-label_wanted c = λ l. rw (sym (c.label_there.ensures l) ∙ c.if-not-label_there.false, sym (c.label_wanted.ensures l) ∙ c.if-not-label_wanted.true)
 
 pub returns : goal.returns
 unfolding label_right ◌and◌
-returns c = λ l. rw (sym (c.label_there.ensures l) ∙ not-false _ c.if-not-label_there.false, sym (c.label_wanted.ensures l) ∙ not-false _ c.if-not-label_wanted.false) (c.label_once.ensures l)
+returns c = λ l. rw (sym (c.label_there.ensures l) ∙ c.if-not-label_there.false, sym (c.label_wanted.ensures l) ∙ c.if-not-label_wanted.false) (c.label_once.ensures l)

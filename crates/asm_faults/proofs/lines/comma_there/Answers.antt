@@ -7,8 +7,8 @@ use Rattle.asm_faults.proofs.lines.comma_there.Goals as goal
 
 pub returns-then-not-has_text : goal.returns-then-not-has_text
 unfolding comma_there ◌or◌
-returns-then-not-has_text c = rw (sym c.has_text.ensures ∙ not-true _ c.if-not-has_text.true)
+returns-then-not-has_text c = rw (sym c.has_text.ensures ∙ c.if-not-has_text.true)
 
 pub returns : goal.returns
 unfolding comma_there ◌or◌
-returns c = rw (sym c.has_text.ensures ∙ not-false _ c.if-not-has_text.false) c.has_comma.ensures
+returns c = rw (sym c.has_text.ensures ∙ c.if-not-has_text.false) c.has_comma.ensures

@@ -7,12 +7,12 @@ use Rattle.asm_faults.proofs.lines.remark_there.Goals as goal
 
 pub returns-then-not-has_text : goal.returns-then-not-has_text
 unfolding remark_there ◌or◌
-returns-then-not-has_text c = rw (sym c.has_text.ensures ∙ not-true _ c.if-not-has_text.true)
+returns-then-not-has_text c = rw (sym c.has_text.ensures ∙ c.if-not-has_text.true)
 
 pub returns-then-not-has_comma : goal.returns-then-not-has_comma
 unfolding remark_there ◌or◌
-returns-then-not-has_comma c = rw (sym c.has_text.ensures ∙ not-false _ c.if-not-has_text.false, sym c.has_comma.ensures ∙ not-true _ c.if-not-has_comma.true)
+returns-then-not-has_comma c = rw (sym c.has_text.ensures ∙ c.if-not-has_text.false, sym c.has_comma.ensures ∙ c.if-not-has_comma.true)
 
 pub returns : goal.returns
 unfolding remark_there ◌or◌
-returns c = rw (sym c.has_text.ensures ∙ not-false _ c.if-not-has_text.false, sym c.has_comma.ensures ∙ not-false _ c.if-not-has_comma.false) c.has_remark.ensures
+returns c = rw (sym c.has_text.ensures ∙ c.if-not-has_text.false, sym c.has_comma.ensures ∙ c.if-not-has_comma.false) c.has_remark.ensures

@@ -7,12 +7,12 @@ use Rattle.asm_faults.proofs.lines.text_delimited.Goals as goal
 
 pub returns-then-not-is_assembly : goal.returns-then-not-is_assembly
 unfolding text_delimited ◌or◌
-returns-then-not-is_assembly c = rw (sym c.is_assembly.ensures ∙ not-true _ c.if-not-is_assembly.true)
+returns-then-not-is_assembly c = rw (sym c.is_assembly.ensures ∙ c.if-not-is_assembly.true)
 
 pub returns-then-is_tail_empty : goal.returns-then-is_tail_empty
 unfolding text_delimited ◌or◌
-returns-then-is_tail_empty c = rw (sym c.is_assembly.ensures ∙ not-false _ c.if-not-is_assembly.false, sym c.is_tail_empty.ensures ∙ c.if-is_tail_empty.true)
+returns-then-is_tail_empty c = rw (sym c.is_assembly.ensures ∙ c.if-not-is_assembly.false, sym c.is_tail_empty.ensures ∙ c.if-is_tail_empty.true)
 
 pub returns : goal.returns
 unfolding text_delimited ◌or◌
-returns c = rw (sym c.is_assembly.ensures ∙ not-false _ c.if-not-is_assembly.false, sym c.is_tail_empty.ensures ∙ c.if-is_tail_empty.false, ← c.is_text_empty.ensures)
+returns c = rw (sym c.is_assembly.ensures ∙ c.if-not-is_assembly.false, sym c.is_tail_empty.ensures ∙ c.if-is_tail_empty.false, ← c.is_text_empty.ensures)

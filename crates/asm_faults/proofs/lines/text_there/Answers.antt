@@ -7,8 +7,8 @@ use Rattle.asm_faults.proofs.lines.text_there.Goals as goal
 
 pub returns-then-not-is_assembly : goal.returns-then-not-is_assembly
 unfolding text_there ◌or◌
-returns-then-not-is_assembly c = rw (sym c.is_assembly.ensures ∙ not-true _ c.if-not-is_assembly.true)
+returns-then-not-is_assembly c = rw (sym c.is_assembly.ensures ∙ c.if-not-is_assembly.true)
 
 pub returns : goal.returns
 unfolding text_there ◌or◌
-returns c = rw (sym c.is_assembly.ensures ∙ not-false _ c.if-not-is_assembly.false, ← c.is_tail_empty.ensures)
+returns c = rw (sym c.is_assembly.ensures ∙ c.if-not-is_assembly.false, ← c.is_tail_empty.ensures)

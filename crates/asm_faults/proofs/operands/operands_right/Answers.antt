@@ -8,20 +8,20 @@ use Rattle.asm_faults.proofs.operands.operands_right.Goals as goal
 
 pub returns-then-not-no_surplus : goal.returns-then-not-no_surplus
 unfolding operands_right operands_fit ◌and◌
-returns-then-not-no_surplus c = rw (sym c.no_surplus.ensures ∙ not-true _ c.if-not-no_surplus.true)
+returns-then-not-no_surplus c = rw (sym c.no_surplus.ensures ∙ c.if-not-no_surplus.true)
 
 pub returns-then-not-all_fit : goal.returns-then-not-all_fit
 unfolding operands_right operands_fit ◌and◌
-returns-then-not-all_fit c = rw (sym c.no_surplus.ensures ∙ not-false _ c.if-not-no_surplus.false, sym c.all_fit.ensures ∙ not-true _ c.if-not-all_fit.true)
+returns-then-not-all_fit c = rw (sym c.no_surplus.ensures ∙ c.if-not-no_surplus.false, sym c.all_fit.ensures ∙ c.if-not-all_fit.true)
 
 pub returns-then-not-comma_there : goal.returns-then-not-comma_there
 unfolding operands_right operands_fit ◌and◌
-returns-then-not-comma_there c = rw (sym c.no_surplus.ensures ∙ not-false _ c.if-not-no_surplus.false, sym c.all_fit.ensures ∙ not-false _ c.if-not-all_fit.false, sym c.comma_there.ensures ∙ not-true _ c.if-not-comma_there.true)
+returns-then-not-comma_there c = rw (sym c.no_surplus.ensures ∙ c.if-not-no_surplus.false, sym c.all_fit.ensures ∙ c.if-not-all_fit.false, sym c.comma_there.ensures ∙ c.if-not-comma_there.true)
 
 pub returns-then-not-text_there : goal.returns-then-not-text_there
 unfolding operands_right operands_fit ◌and◌
-returns-then-not-text_there c = rw (sym c.no_surplus.ensures ∙ not-false _ c.if-not-no_surplus.false, sym c.all_fit.ensures ∙ not-false _ c.if-not-all_fit.false, sym c.comma_there.ensures ∙ not-false _ c.if-not-comma_there.false, sym c.text_there.ensures ∙ not-true _ c.if-not-text_there.true)
+returns-then-not-text_there c = rw (sym c.no_surplus.ensures ∙ c.if-not-no_surplus.false, sym c.all_fit.ensures ∙ c.if-not-all_fit.false, sym c.comma_there.ensures ∙ c.if-not-comma_there.false, sym c.text_there.ensures ∙ c.if-not-text_there.true)
 
 pub returns : goal.returns
 unfolding operands_right operands_fit ◌and◌
-returns c = rw (sym c.no_surplus.ensures ∙ not-false _ c.if-not-no_surplus.false, sym c.all_fit.ensures ∙ not-false _ c.if-not-all_fit.false, sym c.comma_there.ensures ∙ not-false _ c.if-not-comma_there.false, sym c.text_there.ensures ∙ not-false _ c.if-not-text_there.false)
+returns c = rw (sym c.no_surplus.ensures ∙ c.if-not-no_surplus.false, sym c.all_fit.ensures ∙ c.if-not-all_fit.false, sym c.comma_there.ensures ∙ c.if-not-comma_there.false, sym c.text_there.ensures ∙ c.if-not-text_there.false)

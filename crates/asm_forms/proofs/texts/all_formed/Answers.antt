@@ -8,8 +8,6 @@ use Rattle.asm_forms.proofs.Divided.{formed-last, formed-more, formless-text, te
 use borrow.Author.Rules.{rules}
 use Rattle.asm_forms.proofs.texts.all_formed.Goals as goal
 
-)
-
 pub returns-then-f-eq0 : goal.returns-then-f-eq0
 returns-then-f-eq0 c = rw (texts-none c.args.f.now c.if-f-eq0.true) refl
 
@@ -34,3 +32,4 @@ loop-real-preserved c = (
   formed-more c.args.real c.args.f.now _ _ c.find_byte-e.ensures.0 c.loop-real.invariant.1 _ c.form_by.ensures
       (sym c.is_formless.ensures ∙ c.if-is_formless.false) (omega (arith, c.if-e-f.false, c.find_byte-e.ensures.1)) ∙ c.loop-real.invariant.0,
   omega (arith, c.if-e-f.false, c.find_byte-e.ensures.1),
+)

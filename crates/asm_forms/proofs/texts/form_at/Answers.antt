@@ -10,8 +10,6 @@ use Rattle.asm_forms.proofs.Divided.{first-form, form_from, next-form, past-form
 use borrow.Author.Rules.{rules}
 use Rattle.asm_forms.proofs.texts.form_at.Goals as goal
 
-)
-
 pub returns-then-f-eq0 : goal.returns-then-f-eq0
 returns-then-f-eq0 c = rw (texts-none c.args.f.now c.if-f-eq0.true) refl
 
@@ -31,6 +29,7 @@ loop-k-preserved c = (
   next-form c.args.real c.args.f.now _ _ c.find_byte-e.ensures.0 c.loop-k.invariant.1 _ c.loop-k-test.true
       (omega (arith, c.if-e-f.false, c.find_byte-e.ensures.1)) ∙ c.loop-k.invariant.0,
   omega (arith, c.if-e-f.false, c.find_byte-e.ensures.1),
+)
 
 pub find_byte-e-requires-2 : goal.find_byte-e-requires-2
 find_byte-e-requires-2 c = c.loop-k.invariant.1

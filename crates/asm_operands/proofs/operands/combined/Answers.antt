@@ -8,12 +8,12 @@ use Rattle.asm_operands.proofs.operands.combined.Goals as goal
 
 pub returns-then-not-minus : goal.returns-then-not-minus
 unfolding combined_by summed subtracted if
-returns-then-not-minus c = c.value_within.ensures ∙ sym (rw (not-true c.args.minus c.if-not-minus.true) refl)
+returns-then-not-minus c = c.value_within.ensures ∙ sym (rw c.if-not-minus.true refl)
 
 pub returns-then-v-w : goal.returns-then-v-w
 unfolding combined_by summed subtracted if
-returns-then-v-w c = rw (not-false c.args.minus c.if-not-minus.false, lt-leb _ _ c.if-v-w.true) refl
+returns-then-v-w c = rw (c.if-not-minus.false, lt-leb _ _ c.if-v-w.true) refl
 
 pub returns : goal.returns
 unfolding combined_by summed subtracted if
-returns c = c.value_of.ensures ∙ sym (rw (not-false c.args.minus c.if-not-minus.false, le-leb _ _ c.if-v-w.false) refl)
+returns c = c.value_of.ensures ∙ sym (rw (c.if-not-minus.false, le-leb _ _ c.if-v-w.false) refl)

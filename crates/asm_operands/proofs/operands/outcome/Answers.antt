@@ -7,8 +7,8 @@ use Rattle.asm_operands.proofs.operands.outcome.Goals as goal
 
 pub returns-then-not-takes : goal.returns-then-not-takes
 unfolding operand_of if
-returns-then-not-takes c = rw (sym c.takes.ensures ∙ not-true _ c.if-not-takes.true) refl
+returns-then-not-takes c = rw (sym c.takes.ensures ∙ c.if-not-takes.true) refl
 
 pub returns : goal.returns
 unfolding operand_of if
-returns c = c.resolved.ensures ∙ sym (rw (sym c.takes.ensures ∙ not-false _ c.if-not-takes.false) refl)
+returns c = c.resolved.ensures ∙ sym (rw (sym c.takes.ensures ∙ c.if-not-takes.false) refl)

@@ -5,12 +5,12 @@ use Rattle.asm_operations.proofs.names.are_letters.Goals as goal
 
 pub returns-then-not-is_letter : goal.returns-then-not-is_letter
 unfolding ◌and◌
-returns-then-not-is_letter c = rw (← c.is_letter.ensures, not-true c.is_letter.result c.if-not-is_letter.true)
+returns-then-not-is_letter c = rw (← c.is_letter.ensures, c.if-not-is_letter.true)
 
 pub returns-then-not-is_letter-2 : goal.returns-then-not-is_letter-2
 unfolding ◌and◌
-returns-then-not-is_letter-2 c = rw (← c.is_letter.ensures, not-false c.is_letter.result c.if-not-is_letter.false, ← c.is_letter-2.ensures, not-true c.is_letter-2.result c.if-not-is_letter-2.true)
+returns-then-not-is_letter-2 c = rw (← c.is_letter.ensures, c.if-not-is_letter.false, ← c.is_letter-2.ensures, c.if-not-is_letter-2.true)
 
 pub returns : goal.returns
 unfolding ◌and◌
-returns c = rw (← c.is_letter.ensures, not-false c.is_letter.result c.if-not-is_letter.false, ← c.is_letter-2.ensures, not-false c.is_letter-2.result c.if-not-is_letter-2.false) c.is_letter-3.ensures
+returns c = rw (← c.is_letter.ensures, c.if-not-is_letter.false, ← c.is_letter-2.ensures, c.if-not-is_letter-2.false) c.is_letter-3.ensures

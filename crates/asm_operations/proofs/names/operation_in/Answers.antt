@@ -12,8 +12,8 @@ returns-then-j-i c = rw (ne_eqb _ _ c.if-j-i.true)
 
 pub returns-then-not-are_letters : goal.returns-then-not-are_letters
 unfolding operation_in ◌and◌ if
-returns-then-not-are_letters c = rw (eq-eqb _ _ c.if-j-i.false, letters-at c.args.s.now c.args.i (omega arith), ← c.are_letters.ensures, not-true c.are_letters.result c.if-not-are_letters.true)
+returns-then-not-are_letters c = rw (eq-eqb _ _ c.if-j-i.false, letters-at c.args.s.now c.args.i (omega arith), ← c.are_letters.ensures, c.if-not-are_letters.true)
 
 pub returns : goal.returns
 unfolding operation_in ◌and◌ if
-returns c = rw (eq-eqb _ _ c.if-j-i.false, letters-at c.args.s.now c.args.i (omega arith), ← c.are_letters.ensures, not-false c.are_letters.result c.if-not-are_letters.false) c.named.ensures
+returns c = rw (eq-eqb _ _ c.if-j-i.false, letters-at c.args.s.now c.args.i (omega arith), ← c.are_letters.ensures, c.if-not-are_letters.false) c.named.ensures

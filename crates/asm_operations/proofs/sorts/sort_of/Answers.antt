@@ -1,4 +1,5 @@
 -- `asm_operations::sorts::sort_of` meets its contract: by the section.
+use Rattle.language.specs.Symbol as Symbol
 use Rattle.base.specs.Test.{if}
 use borrow.Author.Tests.{eq-eqb, ne_eqb, le-leb, lt-leb}
 use mathlib.Core.Path.{◌∙◌}

@@ -8,12 +8,12 @@ use Rattle.asm_shapes.proofs.faults.bsw_fault.Goals as goal
 
 pub returns-then-not-list_ok : goal.returns-then-not-list_ok
 unfolding list_ok
-returns-then-not-list_ok c = pair-first bad_list _ _ (sym c.list_ok.ensures ∙ not-true c.list_ok.result c.if-not-list_ok.true)
+returns-then-not-list_ok c = pair-first bad_list _ _ (sym c.list_ok.ensures ∙ c.if-not-list_ok.true)
 
 pub returns-then-not-default_ok : goal.returns-then-not-default_ok
 unfolding list_ok
-returns-then-not-default_ok c = pair-second bad_list _ _ (sym c.list_ok.ensures ∙ not-false c.list_ok.result c.if-not-list_ok.false) (sym c.default_ok.ensures ∙ not-true c.default_ok.result c.if-not-default_ok.true)
+returns-then-not-default_ok c = pair-second bad_list _ _ (sym c.list_ok.ensures ∙ c.if-not-list_ok.false) (sym c.default_ok.ensures ∙ c.if-not-default_ok.true)
 
 pub returns : goal.returns
 unfolding list_ok
-returns c = pair-none bad_list _ _ (sym c.list_ok.ensures ∙ not-false c.list_ok.result c.if-not-list_ok.false) (sym c.default_ok.ensures ∙ not-false c.default_ok.result c.if-not-default_ok.false)
+returns c = pair-none bad_list _ _ (sym c.list_ok.ensures ∙ c.if-not-list_ok.false) (sym c.default_ok.ensures ∙ c.if-not-default_ok.false)

@@ -8,8 +8,8 @@ use Rattle.asm_symbols.proofs.meanings.declares_lacking.Goals as goal
 
 pub returns-then-not-is_among : goal.returns-then-not-is_among
 unfolding declares ◌and◌
-returns-then-not-is_among c = rw (sym c.is_among.ensures ∙ not-true _ c.if-not-is_among.true) refl
+returns-then-not-is_among c = rw (sym c.is_among.ensures ∙ c.if-not-is_among.true) refl
 
 pub returns : goal.returns
 unfolding declares ◌and◌
-returns c = c.is_lacking.ensures ∙ rw (sym c.is_among.ensures ∙ not-false _ c.if-not-is_among.false) (ap is_lacking c.meaning.ensures.0)
+returns c = c.is_lacking.ensures ∙ rw (sym c.is_among.ensures ∙ c.if-not-is_among.false) (ap is_lacking c.meaning.ensures.0)

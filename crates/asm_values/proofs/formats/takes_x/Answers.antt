@@ -6,8 +6,8 @@ use Rattle.asm_values.proofs.formats.takes_x.Goals as goal
 
 pub returns-then-not-takes_kind : goal.returns-then-not-takes_kind
 unfolding ◌and◌
-returns-then-not-takes_kind c = rw (sym c.takes_kind.ensures ∙ not-true _ c.if-not-takes_kind.true) refl
+returns-then-not-takes_kind c = rw (sym c.takes_kind.ensures ∙ c.if-not-takes_kind.true) refl
 
 pub returns : goal.returns
 unfolding ◌and◌
-returns c = rw (c.last_x.ensures, sym c.takes_kind.ensures ∙ not-false _ c.if-not-takes_kind.false) refl
+returns c = rw (c.last_x.ensures, sym c.takes_kind.ensures ∙ c.if-not-takes_kind.false) refl

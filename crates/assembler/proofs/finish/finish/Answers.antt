@@ -16,7 +16,7 @@ bodies-requires c =
 
 pub judge-v-requires : goal.judge-v-requires
 judge-v-requires c =
-    (c.requires.0, judged-by _ _ _ _ c.requires.1 _ c.index-size.ensures _ _ (omega (arith, c.index-size.ensures, c.requires.1.collected.size_le, c.requires.2, c.classes_of.auto.1.1.1.1.0)) c.classes_of.ensures c.bodies.ensures, c.requires.4)
+    (c.requires.0, judged-by _ _ _ _ c.requires.1 _ c.index-size.ensures _ _ (omega (arith, c.index-size.ensures, c.requires.1.collected.size_le, c.requires.2, c.classes_of.auto.classes)) c.classes_of.ensures c.bodies.ensures, c.requires.4)
 
 pub returns-in_default : goal.returns-in_default
 returns-in_default c = broken-ends _ _ _ _ _ c.requires.1 _ c.judge-v.ensures _ _ _ c.in_default.is c.fault_in.ensures
@@ -26,22 +26,22 @@ is_complete-requires c = ((laid-is _ _ _ _ c.requires.1).limits.header, c.requir
 
 pub returns-then-not-is_complete : goal.returns-then-not-is_complete
 returns-then-not-is_complete c =
-    incomplete-ends _ _ _ _ _ c.requires.1 _ c.judge-v.ensures c.in-Clear.is _ c.is_complete.ensures (not-true _ c.if-not-is_complete.true)
+    incomplete-ends _ _ _ _ _ c.requires.1 _ c.judge-v.ensures c.in-Clear.is _ c.is_complete.ensures c.if-not-is_complete.true
 
 pub returns-then-not-is_within : goal.returns-then-not-is_within
 returns-then-not-is_within c =
-    over-ends _ _ _ _ _ c.requires.1 _ c.judge-v.ensures c.in-Clear.is _ c.is_complete.ensures (not-false _ c.if-not-is_complete.false) _
-    c.is_within.ensures (not-true _ c.if-not-is_within.true)
+    over-ends _ _ _ _ _ c.requires.1 _ c.judge-v.ensures c.in-Clear.is _ c.is_complete.ensures c.if-not-is_complete.false _
+    c.is_within.ensures c.if-not-is_within.true
 
 pub returns-then-not-is_placed : goal.returns-then-not-is_placed
 returns-then-not-is_placed c =
-    short-ends _ _ _ _ _ c.requires.1 _ c.judge-v.ensures c.in-Clear.is _ c.is_complete.ensures (not-false _ c.if-not-is_complete.false) _
-    c.is_within.ensures (not-false _ c.if-not-is_within.false) _ _ c.is_placed.ensures (not-true _ c.if-not-is_placed.true)
+    short-ends _ _ _ _ _ c.requires.1 _ c.judge-v.ensures c.in-Clear.is _ c.is_complete.ensures c.if-not-is_complete.false _
+    c.is_within.ensures c.if-not-is_within.false _ _ c.is_placed.ensures c.if-not-is_placed.true
 
 pub overflow_cast-result : goal.overflow_cast-result
 overflow_cast-result c = omega (arith, short-table _ _ _ _ c.requires.1)
 
 pub returns : goal.returns
 returns c =
-    done-ends _ _ _ _ _ c.requires.1 _ c.judge-v.ensures c.in-Clear.is _ c.is_complete.ensures (not-false _ c.if-not-is_complete.false) _
-    c.is_within.ensures (not-false _ c.if-not-is_within.false) _ _ c.is_placed.ensures (not-false _ c.if-not-is_placed.false)
+    done-ends _ _ _ _ _ c.requires.1 _ c.judge-v.ensures c.in-Clear.is _ c.is_complete.ensures c.if-not-is_complete.false _
+    c.is_within.ensures c.if-not-is_within.false _ _ c.is_placed.ensures c.if-not-is_placed.false

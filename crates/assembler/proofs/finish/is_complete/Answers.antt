@@ -5,10 +5,10 @@ use mathlib.Core.Path.{sym, ◌∙◌}
 use Rattle.assembler.proofs.finish.is_complete.Goals as goal
 
 pub returns-then-not-closed : goal.returns-then-not-closed
-returns-then-not-closed c = sym (and_no _ _ (not-true _ c.if-not-closed.true))
+returns-then-not-closed c = sym (and_no _ _ c.if-not-closed.true)
 
 pub returns-then-not-sections_ok : goal.returns-then-not-sections_ok
-returns-then-not-sections_ok c = sym (and_yes _ _ (not-false _ c.if-not-closed.false) ∙ and_no _ _ (sym c.sections_ok.ensures ∙ not-true _ c.if-not-sections_ok.true))
+returns-then-not-sections_ok c = sym (and_yes _ _ c.if-not-closed.false ∙ and_no _ _ (sym c.sections_ok.ensures ∙ c.if-not-sections_ok.true))
 
 pub returns : goal.returns
-returns c = c.all_placed.ensures ∙ sym (and_yes _ _ (not-false _ c.if-not-closed.false) ∙ and_yes _ _ (sym c.sections_ok.ensures ∙ not-false _ c.if-not-sections_ok.false))
+returns c = c.all_placed.ensures ∙ sym (and_yes _ _ c.if-not-closed.false ∙ and_yes _ _ (sym c.sections_ok.ensures ∙ c.if-not-sections_ok.false))

@@ -11,11 +11,11 @@ all_given-requires c = (c.requires.0, c.requires.1)
 
 pub returns-then-not-all_given : goal.returns-then-not-all_given
 unfolding is_judged
-returns-then-not-all_given c cs = sym (and_no _ _ (sym c.all_given.ensures ∙ not-true _ c.if-not-all_given.true))
+returns-then-not-all_given c cs = sym (and_no _ _ (sym c.all_given.ensures ∙ c.if-not-all_given.true))
 
 pub count_known-requires : goal.count_known-requires
 count_known-requires c = (c.requires.2, omega (arith, c.index-p.ensures, c.requires.3))
 
 pub returns : goal.returns
 unfolding is_judged
-returns c cs = rw (c.count_known.ensures, c.index-p.ensures) (sym (and_yes _ _ (sym c.all_given.ensures ∙ not-false _ c.if-not-all_given.false)))
+returns c cs = rw (c.count_known.ensures, c.index-p.ensures) (sym (and_yes _ _ (sym c.all_given.ensures ∙ c.if-not-all_given.false)))

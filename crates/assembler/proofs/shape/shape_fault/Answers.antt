@@ -7,13 +7,13 @@ use Rattle.assembler.proofs.shape.shape_fault.Goals as goal
 
 pub returns-then-not-holds_place : goal.returns-then-not-holds_place
 unfolding shape_fault
-returns-then-not-holds_place c cs = sym (if_no _ _ _ (sym (c.holds_place.ensures c.args.s.now) ∙ not-true _ c.if-not-holds_place.true))
+returns-then-not-holds_place c cs = sym (if_no _ _ _ (sym (c.holds_place.ensures c.args.s.now) ∙ c.if-not-holds_place.true))
 
 pub place_fault-requires : goal.place_fault-requires
 place_fault-requires c =
-    (c.requires.0, c.requires.1, c.requires.2, c.requires.3 (sym (c.holds_place.ensures c.args.s.now) ∙ not-false _ c.if-not-holds_place.false), c.requires.4)
+    (c.requires.0, c.requires.1, c.requires.2, c.requires.3 (sym (c.holds_place.ensures c.args.s.now) ∙ c.if-not-holds_place.false), c.requires.4)
 
 pub returns : goal.returns
 unfolding shape_fault
 returns c cs =
-    c.place_fault.ensures cs ∙ sym (if_yes _ _ _ (sym (c.holds_place.ensures c.args.s.now) ∙ not-false _ c.if-not-holds_place.false))
+    c.place_fault.ensures cs ∙ sym (if_yes _ _ _ (sym (c.holds_place.ensures c.args.s.now) ∙ c.if-not-holds_place.false))

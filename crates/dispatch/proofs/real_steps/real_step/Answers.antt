@@ -1,4 +1,6 @@
 -- `dispatch::real_steps::real_step` meets its contract: an arm for each real operation.
+use Rattle.ops.specs.Ops as Op
+use Rattle.exec_reals.proofs.Takes as reals
 use mathlib.Core.Path.{refl}
 use native.Mathlib.Omega.{arith}
 use Rattle.base.specs.Test.{if}

@@ -7,8 +7,8 @@ use Rattle.entries.proofs.fields.entry_ok.Goals as goal
 
 pub returns-then-not-operands_ok : goal.returns-then-not-operands_ok
 unfolding entry_by ◌and◌
-returns-then-not-operands_ok c = rw (← c.operands_ok.ensures, not-true c.operands_ok.result c.if-not-operands_ok.true) refl
+returns-then-not-operands_ok c = rw (← c.operands_ok.ensures, c.if-not-operands_ok.true) refl
 
 pub returns : goal.returns
 unfolding entry_by ◌and◌
-returns c = rw (← c.operands_ok.ensures, not-false c.operands_ok.result c.if-not-operands_ok.false) c.apart_at.ensures
+returns c = rw (← c.operands_ok.ensures, c.if-not-operands_ok.false) c.apart_at.ensures

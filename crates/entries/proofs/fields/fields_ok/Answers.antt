@@ -48,7 +48,7 @@ returns-then-not-entry_by c =
     let e = sym c.row_at-found.ensures ∙ c.in-Row.is in
     let r = table-row a.args.list.now a.requires.1 i (row_inside _ e) in
     record {
-      verdict = sym (below_fails (entry_ok t) (get_or t 0 0) p (omega arith) (entry-cells t p i e (get_or a.args.list.now i []) r ∙ sym c.entry_by.ensures ∙ not-true c.entry_by.result c.if-not-entry_by.true));
+      verdict = sym (below_fails (entry_ok t) (get_or t 0 0) p (omega arith) (entry-cells t p i e (get_or a.args.list.now i []) r ∙ sym c.entry_by.ensures ∙ c.if-not-entry_by.true));
       classes = λ h. absurd (failed (true-ok _ h));
     }
 
@@ -71,7 +71,7 @@ loop-p-preserved c =
       omega arith,
       length-set l.loop-p.classes p _ ∙ l.loop-p.invariant.1,
       below_more (entry_ok t) p l.loop-p.invariant.2
-          (entry-cells t p i e (get_or a.args.list.now i []) r ∙ sym c.entry_by.ensures ∙ not-false c.entry_by.result c.if-not-entry_by.false),
+          (entry-cells t p i e (get_or a.args.list.now i []) r ∙ sym c.entry_by.ensures ∙ c.if-not-entry_by.false),
       filled_more (λ (x : ℕ). class_code (class_at t x)) l.loop-p.classes p _ (omega (arith, l.loop-p.invariant.1))
           (c.class_of.ensures ∙ class-cells t p i e (get_or a.args.list.now i []) r size) l.loop-p.invariant.3,
     )

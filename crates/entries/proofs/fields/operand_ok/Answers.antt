@@ -7,12 +7,12 @@ use Rattle.entries.proofs.fields.operand_ok.Goals as goal
 
 pub returns-then-not-takes : goal.returns-then-not-takes
 unfolding operand_by ◌and◌
-returns-then-not-takes c = rw (← c.takes.ensures, not-true c.takes.result c.if-not-takes.true) refl
+returns-then-not-takes c = rw (← c.takes.ensures, c.if-not-takes.true) refl
 
 pub returns-then-not-register_ok : goal.returns-then-not-register_ok
 unfolding operand_by ◌and◌
-returns-then-not-register_ok c = rw (← c.takes.ensures, not-false c.takes.result c.if-not-takes.false, ← c.register_ok.ensures, not-true c.register_ok.result c.if-not-register_ok.true) refl
+returns-then-not-register_ok c = rw (← c.takes.ensures, c.if-not-takes.false, ← c.register_ok.ensures, c.if-not-register_ok.true) refl
 
 pub returns : goal.returns
 unfolding operand_by ◌and◌
-returns c = rw (← c.takes.ensures, not-false c.takes.result c.if-not-takes.false, ← c.register_ok.ensures, not-false c.register_ok.result c.if-not-register_ok.false) c.value_ok.ensures
+returns c = rw (← c.takes.ensures, c.if-not-takes.false, ← c.register_ok.ensures, c.if-not-register_ok.false) c.value_ok.ensures

@@ -8,12 +8,12 @@ use Rattle.entries.proofs.fields.operands_ok.Goals as goal
 
 pub returns-then-not-operand_ok : goal.returns-then-not-operand_ok
 unfolding fields_by field ◌and◌
-returns-then-not-operand_ok c = rw (← c.operand_ok.ensures, not-true c.operand_ok.result c.if-not-operand_ok.true) refl
+returns-then-not-operand_ok c = rw (← c.operand_ok.ensures, c.if-not-operand_ok.true) refl
 
 pub returns-then-not-operand_ok-2 : goal.returns-then-not-operand_ok-2
 unfolding fields_by field ◌and◌
-returns-then-not-operand_ok-2 c = rw (← c.operand_ok.ensures, not-false c.operand_ok.result c.if-not-operand_ok.false, ← c.operand_ok-2.ensures, not-true c.operand_ok-2.result c.if-not-operand_ok-2.true) refl
+returns-then-not-operand_ok-2 c = rw (← c.operand_ok.ensures, c.if-not-operand_ok.false, ← c.operand_ok-2.ensures, c.if-not-operand_ok-2.true) refl
 
 pub returns : goal.returns
 unfolding fields_by field ◌and◌
-returns c = rw (← c.operand_ok.ensures, not-false c.operand_ok.result c.if-not-operand_ok.false, ← c.operand_ok-2.ensures, not-false c.operand_ok-2.result c.if-not-operand_ok-2.false) c.third_ok.ensures
+returns c = rw (← c.operand_ok.ensures, c.if-not-operand_ok.false, ← c.operand_ok-2.ensures, c.if-not-operand_ok-2.false) c.third_ok.ensures

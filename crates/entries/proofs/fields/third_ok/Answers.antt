@@ -12,8 +12,8 @@ returns-then-x-eq0 c = rw (eq-eqb _ _ c.if-x-eq0.true) c.takes.ensures
 
 pub returns-then-not-takes : goal.returns-then-not-takes
 unfolding third_by if ◌and◌
-returns-then-not-takes c = rw (ne_eqb _ _ c.if-x-eq0.false, ← c.takes-2.ensures, not-true c.takes-2.result c.if-not-takes.true) refl
+returns-then-not-takes c = rw (ne_eqb _ _ c.if-x-eq0.false, ← c.takes-2.ensures, c.if-not-takes.true) refl
 
 pub returns : goal.returns
 unfolding third_by size if ◌and◌
-returns c = rw (ne_eqb _ _ c.if-x-eq0.false, ← c.takes-2.ensures, not-false c.takes-2.result c.if-not-takes.false) refl
+returns c = rw (ne_eqb _ _ c.if-x-eq0.false, ← c.takes-2.ensures, c.if-not-takes.false) refl

@@ -13,10 +13,10 @@ loop-i-init c = (omega arith, exits-start _ _ _)
 
 pub returns-then-not-is_exit : goal.returns-then-not-is_exit
 unfolding exit_list
-returns-then-not-is_exit c = rw (← c.index-k.ensures) (sym (and_no _ _ (c.loop-i.invariant.1 ∙ exits-next c.args.table.now c.args.p c.index-k.result c.loop-i.i c.loop-i-test.true ∙ and_no _ _ (sym c.is_exit.ensures ∙ not-true c.is_exit.result c.if-not-is_exit.true))))
+returns-then-not-is_exit c = rw (← c.index-k.ensures) (sym (and_no _ _ (c.loop-i.invariant.1 ∙ exits-next c.args.table.now c.args.p c.index-k.result c.loop-i.i c.loop-i-test.true ∙ and_no _ _ (sym c.is_exit.ensures ∙ c.if-not-is_exit.true))))
 
 pub loop-i-preserved : goal.loop-i-preserved
-loop-i-preserved c = (omega arith, c.loop-i.invariant.1 ∙ exits-next c.args.table.now c.args.p c.index-k.result c.loop-i.i c.loop-i-test.true ∙ and_yes _ _ (sym c.is_exit.ensures ∙ not-false c.is_exit.result c.if-not-is_exit.false))
+loop-i-preserved c = (omega arith, c.loop-i.invariant.1 ∙ exits-next c.args.table.now c.args.p c.index-k.result c.loop-i.i c.loop-i-test.true ∙ and_yes _ _ (sym c.is_exit.ensures ∙ c.if-not-is_exit.false))
 
 pub returns : goal.returns
 unfolding exit_list

@@ -1,4 +1,5 @@
 -- `shape_core::exits::exits_of` meets its contract: each return rewrites with the tests that led there.
+use Rattle.shape_core.specs.declared.exits.Exits.TheVariants as exits
 use Rattle.shape_core.proofs.Lists.{prc-inside, exits-procedure, exits-no-procedure, exits-no-kind, exits-far, exits-external}
 use native.Mathlib.Omega.{arith}
 use mathlib.Core.Bool.{true, false}

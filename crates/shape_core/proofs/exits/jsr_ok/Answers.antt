@@ -9,7 +9,7 @@ pub returns-in_default : goal.returns-in_default
 returns-in_default c = jsr-unnamed c.args.table.now c.args.p (sym c.exits_of-exits.ensures ∙ c.in_default.is)
 
 pub returns-then-not-exit_list : goal.returns-then-not-exit_list
-returns-then-not-exit_list c = jsr-unlisted c.args.table.now c.args.p c.in-Count.k (sym c.exits_of-exits.ensures ∙ c.in-Count.is) (sym c.exit_list.ensures ∙ not-true c.exit_list.result c.if-not-exit_list.true)
+returns-then-not-exit_list c = jsr-unlisted c.args.table.now c.args.p c.in-Count.k (sym c.exits_of-exits.ensures ∙ c.in-Count.is) (sym c.exit_list.ensures ∙ c.if-not-exit_list.true)
 
 pub returns : goal.returns
-returns c = c.reaches.ensures ∙ rw c.index.ensures (jsr-listed c.args.table.now c.args.p c.in-Count.k (sym c.exits_of-exits.ensures ∙ c.in-Count.is) (sym c.exit_list.ensures ∙ not-false c.exit_list.result c.if-not-exit_list.false))
+returns c = c.reaches.ensures ∙ rw c.index.ensures (jsr-listed c.args.table.now c.args.p c.in-Count.k (sym c.exits_of-exits.ensures ∙ c.in-Count.is) (sym c.exit_list.ensures ∙ c.if-not-exit_list.false))

@@ -1,4 +1,5 @@
 -- `shape_distinct::distinct::are_distinct` meets its contract: what marks find is so, and order decides the rest.
+use Rattle.rules.specs.Check as Check
 use mathlib.Core.Path.{sym}
 use Rattle.shape_values.proofs.Values.{claimed}
 use Rattle.shape_distinct.proofs.distinct.are_distinct.Goals as goal

@@ -1,4 +1,5 @@
 -- `shape_distinct::distinct::past_marks` meets its contract: what order finds is so, and pairs decide the rest.
+use Rattle.rules.specs.Check as Check
 use mathlib.Core.Path.{sym}
 use Rattle.shape_values.proofs.Values.{claimed}
 use Rattle.shape_distinct.proofs.distinct.past_marks.Goals as goal

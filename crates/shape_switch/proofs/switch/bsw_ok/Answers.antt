@@ -8,8 +8,8 @@ use Rattle.shape_switch.proofs.switch.bsw_ok.Goals as goal
 
 pub returns-then-not-list_ok : goal.returns-then-not-list_ok
 unfolding list_ok
-returns-then-not-list_ok c = sym (and_no _ _ (sym c.list_ok.ensures ∙ not-true c.list_ok.result c.if-not-list_ok.true))
+returns-then-not-list_ok c = sym (and_no _ _ (sym c.list_ok.ensures ∙ c.if-not-list_ok.true))
 
 pub returns : goal.returns
 unfolding list_ok
-returns c = c.default_ok.ensures ∙ sym (and_yes _ _ (sym c.list_ok.ensures ∙ not-false c.list_ok.result c.if-not-list_ok.false) ∙ and-true _)
+returns c = c.default_ok.ensures ∙ sym (and_yes _ _ (sym c.list_ok.ensures ∙ c.if-not-list_ok.false) ∙ and-true _)

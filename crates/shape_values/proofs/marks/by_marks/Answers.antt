@@ -4,8 +4,6 @@ use Rattle.shape_core.specs.Counted.{fresh_at}
 use Rattle.shape_values.proofs.Values.{marked_start, marked-at, marked-back, distinct-start, distinct-front, distinct-back, distinct-end, claimed}
 use Rattle.shape_values.proofs.marks.by_marks.Goals as goal
 
-)
-
 pub overflow_mul-spare : goal.overflow_mul-spare
 overflow_mul-spare c = omega arith
 
@@ -30,9 +28,10 @@ mark-spent-requires c = (omega arith, omega arith, marked-at c.args.table.now c.
 pub loop-left-preserved : goal.loop-left-preserved
 loop-left-preserved c = (
   omega arith,
-  c.mark-spent.auto.1.0 ∙ c.loop-left.invariant.1,
+  c.mark-spent.auto.marks ∙ c.loop-left.invariant.1,
   distinct-back c.args.table.now c.args.limit c.args.p c.args.k c.loop-left.left c.loop-left-test.true (claimed (fresh_at c.args.table.now c.args.limit (c.args.p + (c.args.k - c.loop-left.left - 1)) c.loop-left.left) c.in-Holds.is c.look-found.ensures) c.loop-left.invariant.2,
   marked-back c.args.table.now c.args.limit c.args.p c.args.k c.loop-left.left c.mark-spent.new.1.0 c.loop-left-test.true c.mark-spent.ensures,
+)
 
 pub returns : goal.returns
 returns c = sym (distinct-end c.args.table.now c.args.limit c.args.p c.args.k c.loop-left.left (omega arith) c.loop-left.invariant.0 c.loop-left.invariant.2)

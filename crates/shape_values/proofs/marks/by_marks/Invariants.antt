@@ -1,3 +1,4 @@
+use Rattle.rules.specs.Check as Check
 use Rattle.std.proofs.Common.{◌≡◌, ◌+◌, ◌-◌, ◌≤◌, true, length}
 use Rattle.shape_core.specs.Counted.{Marked}
 use Rattle.shape_values.proofs.marks.by_marks.Given as goal

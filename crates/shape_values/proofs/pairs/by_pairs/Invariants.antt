@@ -1,3 +1,4 @@
+use Rattle.rules.specs.Check as Check
 use Rattle.std.proofs.Common.{◌≡◌, ◌+◌, ◌-◌, ◌≤◌, true}
 use Rattle.shape_values.proofs.pairs.by_pairs.Given as goal
 

@@ -1,3 +1,4 @@
+use Rattle.rules.specs.Check as Check
 use Rattle.std.proofs.Common.{◌≡◌, ◌+◌, ◌-◌, ◌≤◌}
 use Rattle.shape_values.proofs.pairs.unlike.Given as goal
 

@@ -9,7 +9,7 @@ use mathlib.Core.Path.{sym, ◌∙◌}
 use Rattle.shapes.proofs.cards.iff_ok.Goals as goal
 
 pub returns-then-not-below_iff : goal.returns-then-not-below_iff
-returns-then-not-below_iff c = sym (and_no _ _ (sym c.below_iff.ensures ∙ not-true c.below_iff.result c.if-not-below_iff.true))
+returns-then-not-below_iff c = sym (and_no _ _ (sym c.below_iff.ensures ∙ c.if-not-below_iff.true))
 
 pub returns : goal.returns
-returns c = sym (and_yes _ _ (sym c.below_iff.ensures ∙ not-false c.below_iff.result c.if-not-below_iff.false) ∙ and-true _ ∙ must c.args.table.now c.args.p c.must_reach.result c.target_two-two.ensures c.must_reach.ensures)
+returns c = sym (and_yes _ _ (sym c.below_iff.ensures ∙ c.if-not-below_iff.false) ∙ and-true _ ∙ must c.args.table.now c.args.p c.must_reach.result c.target_two-two.ensures c.must_reach.ensures)

@@ -30,7 +30,7 @@ loop-i-smaller c = omega arith
 
 pub loop-i-preserved : goal.loop-i-preserved
 loop-i-preserved c = let v = c.loop-i.invariant in
-    (v.0, c.write_word.auto.0 ∙ v.1, omega arith, v.3 ∙ put_next _ _ _ _ (omega arith) (omega arith) ∙ rw c.write_word.ensures)
+    (v.0, c.write_word.auto.file ∙ v.1, omega arith, v.3 ∙ put_next _ _ _ _ (omega arith) (omega arith) ∙ rw c.write_word.ensures)
 
 pub shape_of-file : goal.shape_of-file
 shape_of-file c = omega arith

@@ -21,10 +21,10 @@ pub fresh_index-requires : goal.fresh_index-requires
 fresh_index-requires c = (c.requires.0, omega arith)
 
 pub overflow_mul-fresh_index : goal.overflow_mul-fresh_index
-overflow_mul-fresh_index c = omega (arith, c.requires.1, c.requires.2, c.write_words.auto.0, c.fresh_index.ensures, fresh_index-inside _ c.requires.0 c.loop-i.i (omega arith))
+overflow_mul-fresh_index c = omega (arith, c.requires.1, c.requires.2, c.write_words.auto.file, c.fresh_index.ensures, fresh_index-inside _ c.requires.0 c.loop-i.i (omega arith))
 
 pub write_word-requires : goal.write_word-requires
-write_word-requires c = omega (arith, c.requires.1, c.requires.2, c.write_words.auto.0, c.fresh_index.ensures, fresh_index-inside _ c.requires.0 c.loop-i.i (omega arith))
+write_word-requires c = omega (arith, c.requires.1, c.requires.2, c.write_words.auto.file, c.fresh_index.ensures, fresh_index-inside _ c.requires.0 c.loop-i.i (omega arith))
 
 pub overflow_add-i : goal.overflow_add-i
 overflow_add-i c = omega arith
@@ -33,7 +33,7 @@ pub loop-i-smaller : goal.loop-i-smaller
 loop-i-smaller c = omega arith
 
 pub loop-i-preserved : goal.loop-i-preserved
-loop-i-preserved c = let v = c.loop-i.invariant in (v.0, c.write_word.auto.0 ∙ v.1, omega arith, λ r e. c.write_word.ensures ∙ hide-next _ _ _ _ c.loop-i.i _ c.requires.0 c.requires.1 (omega arith) c.fresh_index.ensures (v.3 r e))
+loop-i-preserved c = let v = c.loop-i.invariant in (v.0, c.write_word.auto.file ∙ v.1, omega arith, λ r e. c.write_word.ensures ∙ hide-next _ _ _ _ c.loop-i.i _ c.requires.0 c.requires.1 (omega arith) c.fresh_index.ensures (v.3 r e))
 
 pub shape_of-file : goal.shape_of-file
 shape_of-file c = omega arith

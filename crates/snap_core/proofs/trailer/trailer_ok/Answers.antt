@@ -14,27 +14,27 @@ pub returns-then-not-length_ok : goal.returns-then-not-length_ok
 unfolding length_true
 returns-then-not-length_ok c =
     sym (trailer-parts c.args.file.now c.if-file-lt-TRAILER.false
-    ∙ and_no _ _ (sym c.length_ok.ensures ∙ not-true c.length_ok.result c.if-not-length_ok.true))
+    ∙ and_no _ _ (sym c.length_ok.ensures ∙ c.if-not-length_ok.true))
 
 pub returns-then-not-memory_ok : goal.returns-then-not-memory_ok
 unfolding length_true
 returns-then-not-memory_ok c =
-    let t : length_true c.args.file.now ≡ true = sym c.length_ok.ensures ∙ not-false c.length_ok.result c.if-not-length_ok.false in
+    let t : length_true c.args.file.now ≡ true = sym c.length_ok.ensures ∙ c.if-not-length_ok.false in
     let m : c.index.result ≡ memory_in c.args.file.now = c.index.ensures ∙ c.trailer_word.ensures in
     sym (trailer-parts c.args.file.now c.if-file-lt-TRAILER.false ∙ and_yes _ _ t
-    ∙ and_no _ _ (rw (← m) (sym c.memory_ok.ensures ∙ not-true c.memory_ok.result c.if-not-memory_ok.true)))
+    ∙ and_no _ _ (rw (← m) (sym c.memory_ok.ensures ∙ c.if-not-memory_ok.true)))
 
 pub values_ok-requires : goal.values_ok-requires
 unfolding length_true
 values_ok-requires c =
-    let t : length_true c.args.file.now ≡ true = sym c.length_ok.ensures ∙ not-false c.length_ok.result c.if-not-length_ok.false in
+    let t : length_true c.args.file.now ≡ true = sym c.length_ok.ensures ∙ c.if-not-length_ok.false in
     (c.if-file-lt-TRAILER.false, trailer-inside c.args.file.now t)
 
 pub returns : goal.returns
 unfolding length_true
 returns c =
-    let t : length_true c.args.file.now ≡ true = sym c.length_ok.ensures ∙ not-false c.length_ok.result c.if-not-length_ok.false in
+    let t : length_true c.args.file.now ≡ true = sym c.length_ok.ensures ∙ c.if-not-length_ok.false in
     let m : c.index.result ≡ memory_in c.args.file.now = c.index.ensures ∙ c.trailer_word.ensures in
     c.values_ok.ensures
     ∙ sym (trailer-parts c.args.file.now c.if-file-lt-TRAILER.false ∙ and_yes _ _ t
-    ∙ and_yes _ _ (rw (← m) (sym c.memory_ok.ensures ∙ not-false c.memory_ok.result c.if-not-memory_ok.false)))
+    ∙ and_yes _ _ (rw (← m) (sym c.memory_ok.ensures ∙ c.if-not-memory_ok.false)))

@@ -31,7 +31,7 @@ unfolding frozen_ok
 returns-then-not-state_ok c =
     let few : links_in c.args.file.now ≤ 256 = omega (arith, c.if-index-gt-MAX_LINKS.false, c.index.ensures, c.trailer_word.ensures) in
     let e = frozen-checked _ _ _ _ _ c.requires.1 few c.frozen_state-s.ensures (c.index-m.ensures ∙ c.trailer_word-2.ensures) c.state_ok.ensures in
-    sym (and_no _ _ (sym e ∙ not-true _ c.if-not-state_ok.true))
+    sym (and_no _ _ (sym e ∙ c.if-not-state_ok.true))
 
 pub memory_from-requires : goal.memory_from-requires
 memory_from-requires c = c.requires.1
@@ -41,7 +41,7 @@ unfolding frozen_in
 fresh_hidden-requires c =
     let few : links_in c.args.file.now ≤ 256 = omega (arith, c.if-index-gt-MAX_LINKS.false, c.index.ensures, c.trailer_word.ensures) in
     let e = frozen-checked _ _ _ _ _ c.requires.1 few c.frozen_state-s.ensures (c.index-m.ensures ∙ c.trailer_word-2.ensures) c.state_ok.ensures in
-    let l = state-limits _ _ (true-ok _ (sym e ∙ not-false _ c.if-not-state_ok.false)) in
+    let l = state-limits _ _ (true-ok _ (sym e ∙ c.if-not-state_ok.false)) in
     let m = length-words_in c.args.file.now (memory_from c.args.file.now) (memory_in c.args.file.now) in
     (c.requires.0, omega (arith, l.room, c.index-m.ensures, c.trailer_word-2.ensures), omega (arith, c.memory_from.ensures, c.index-m.ensures, c.trailer_word-2.ensures, trailed _ c.requires.1))
 
@@ -51,4 +51,4 @@ returns c =
     let few : links_in c.args.file.now ≤ 256 = omega (arith, c.if-index-gt-MAX_LINKS.false, c.index.ensures, c.trailer_word.ensures) in
     let e = frozen-checked _ _ _ _ _ c.requires.1 few c.frozen_state-s.ensures (c.index-m.ensures ∙ c.trailer_word-2.ensures) c.state_ok.ensures in
     let m : c.index-m.result ≡ memory_in c.args.file.now = c.index-m.ensures ∙ c.trailer_word-2.ensures in
-    c.fresh_hidden.ensures ∙ rw (c.memory_from.ensures, m) (sym (and_yes _ _ (sym e ∙ not-false _ c.if-not-state_ok.false)))
+    c.fresh_hidden.ensures ∙ rw (c.memory_from.ensures, m) (sym (and_yes _ _ (sym e ∙ c.if-not-state_ok.false)))

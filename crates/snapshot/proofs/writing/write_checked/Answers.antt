@@ -15,12 +15,12 @@ use borrow.Author.Rules.{rules}
 use Rattle.snapshot.proofs.writing.write_checked.Goals as goal
 
 pub returns-then-not-state_ok : goal.returns-then-not-state_ok
-returns-then-not-state_ok c = unwritten-state c.args.table.now (state_of c.args.state c.args.memory.now) _ _ (test-true _ c.requires) (sym (c.state_ok.ensures c.args.memory.now refl) ∙ not-true _ c.if-not-state_ok.true)
+returns-then-not-state_ok c = unwritten-state c.args.table.now (state_of c.args.state c.args.memory.now) _ _ (test-true _ c.requires) (sym (c.state_ok.ensures c.args.memory.now refl) ∙ c.if-not-state_ok.true)
 
 pub overflow_cast-memory : goal.overflow_cast-memory
 overflow_cast-memory c =
     let full : length c.args.state.links ≡ 256 = search rules in
-    let fine : state_ok c.args.table.now (state_of c.args.state c.args.memory.now) ≡ true = sym (c.state_ok.ensures c.args.memory.now refl) ∙ not-false _ c.if-not-state_ok.false in
+    let fine : state_ok c.args.table.now (state_of c.args.state c.args.memory.now) ≡ true = sym (c.state_ok.ensures c.args.memory.now refl) ∙ c.if-not-state_ok.false in
     let d = measured c.args.table.now c.args.memory.now c.args.state full (true-ok _ fine) in
     omega arith
 
@@ -31,7 +31,7 @@ pub returns-then-file-len : goal.returns-then-file-len
 unfolding fresh_count
 returns-then-file-len c =
     let full : length c.args.state.links ≡ 256 = search rules in
-    let fine : state_ok c.args.table.now (state_of c.args.state c.args.memory.now) ≡ true = sym (c.state_ok.ensures c.args.memory.now refl) ∙ not-false _ c.if-not-state_ok.false in
+    let fine : state_ok c.args.table.now (state_of c.args.state c.args.memory.now) ≡ true = sym (c.state_ok.ensures c.args.memory.now refl) ∙ c.if-not-state_ok.false in
     let d = measured c.args.table.now c.args.memory.now c.args.state full (true-ok _ fine) in
     unwritten-room c.args.table.now (state_of c.args.state c.args.memory.now) _ _ (test-true _ c.requires) fine (rw d.links (rw c.written_length-len.ensures at c.if-file-len.true))
 
@@ -39,7 +39,7 @@ pub write_file-requires : goal.write_file-requires
 unfolding fresh_count
 write_file-requires c =
     let full : length c.args.state.links ≡ 256 = search rules in
-    let fine : state_ok c.args.table.now (state_of c.args.state c.args.memory.now) ≡ true = sym (c.state_ok.ensures c.args.memory.now refl) ∙ not-false _ c.if-not-state_ok.false in
+    let fine : state_ok c.args.table.now (state_of c.args.state c.args.memory.now) ≡ true = sym (c.state_ok.ensures c.args.memory.now refl) ∙ c.if-not-state_ok.false in
     let d = measured c.args.table.now c.args.memory.now c.args.state full (true-ok _ fine) in
     (c.requires, true-ok _ fine, rw c.written_length-len.ensures at c.if-file-len.false)
 
@@ -47,6 +47,6 @@ pub returns : goal.returns
 unfolding fresh_count
 returns c =
     let full : length c.args.state.links ≡ 256 = search rules in
-    let fine : state_ok c.args.table.now (state_of c.args.state c.args.memory.now) ≡ true = sym (c.state_ok.ensures c.args.memory.now refl) ∙ not-false _ c.if-not-state_ok.false in
+    let fine : state_ok c.args.table.now (state_of c.args.state c.args.memory.now) ≡ true = sym (c.state_ok.ensures c.args.memory.now refl) ∙ c.if-not-state_ok.false in
     let d = measured c.args.table.now c.args.memory.now c.args.state full (true-ok _ fine) in
     written-file c.args.table.now (state_of c.args.state c.args.memory.now) _ _ (test-true _ c.requires) fine _ _ (rw d.links (rw c.written_length-len.ensures at c.if-file-len.false)) (rw d.links c.written_length-len.ensures) c.write_file.ensures

@@ -48,7 +48,7 @@ pub write_words-requires : goal.write_words-requires
 write_words-requires c =
     let full : length c.args.state.links ≡ 256 = search rules in
     let d = measured c.args.table.now c.args.memory.now c.args.state full c.requires.1 in
-    omega (arith, length-take-le c.index-k.result c.args.state.links (omega (arith, c.index-k.ensures)), c.index-k.ensures, c.write_memory.auto.0, c.requires.2)
+    omega (arith, length-take-le c.index-k.result c.args.state.links (omega (arith, c.index-k.ensures)), c.index-k.ensures, c.write_memory.auto.file, c.requires.2)
 
 pub overflow_add-to : goal.overflow_add-to
 overflow_add-to c = omega (arith, c.fresh_base-from.ensures, c.fresh_count-f.ensures, fresh-inside _ c.requires.0)
@@ -61,6 +61,6 @@ slice_bounds-write_words-end-2 c = omega (arith, c.fresh_base-from.ensures, c.fr
 
 pub returns : goal.returns
 returns c =
-    let full = full-links c in
+    let full : length c.args.state.links ≡ 256 = search rules in
     let d = measured c.args.table.now c.args.memory.now c.args.state full c.requires.1 in
     write-parts c.args.table.now c.args.memory.now _ _ _ _ _ _ _ _ c.args.state _ _ _ _ c.index-k.result d full c.index-k.ensures refl (fresh-part _ _ _ c.requires.0 c.fresh_base-from.ensures c.fresh_count-f.ensures) c.trailer_words-words.ensures c.write_memory.ensures c.write_words.ensures c.write_words-2.ensures c.write_words-3.ensures refl refl (rw c.fresh_count-f.ensures)

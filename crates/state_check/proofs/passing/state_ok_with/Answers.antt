@@ -8,18 +8,6 @@ use native.Mathlib.Omega.{arith}
 use borrow.Author.Rules.{rules}
 use Rattle.state_check.proofs.passing.state_ok_with.Goals as goal
 
--- what is known where the function begins
-abbrev Begun : Type 0
-Begun =
-    lts.Start
-    (index_Reads.Asked, index_Reads.Learnt, reals-ok-reads.Asked, reals-ok-reads.Learnt, memory-fits-reads.Asked, memory-fits-reads.Learnt, chained-reads.Asked, chained-reads.Learnt, placed-reads.Asked, placed-reads.Learnt)
-    reads.Pre
-    reads.Post
-
--- the state's array has 256 links
-full-links : (c : Begun) → length c.args.s.links ≡ 256
-full-links c = search rules
-
 pub bounds-t-0 : goal.bounds-t-0
 bounds-t-0 c =
     let args = c.args in
@@ -52,9 +40,8 @@ pub returns-then-k-gt-MAX_LINKS : goal.returns-then-k-gt-MAX_LINKS
 returns-then-k-gt-MAX_LINKS c =
     let index2 = c.index-k in
     let index3 = c.index-p in
-    let start = c in
-    let args = start.args in
-    let full : length args.s.links ≡ 256 = full-links start in
+    let args = c.args in
+    let full : length args.s.links ≡ 256 = search rules in
     λ mem m. judged-many args.t.now mem args.s args.len index2.result index3.result m index2.ensures
     index3.ensures full c.if-k-gt-MAX_LINKS.true
 
@@ -62,23 +49,21 @@ pub chained-requires : goal.chained-requires
 unfolding size
 chained-requires c =
     let index = c.index-n in
-    let start = c in
-    let args = start.args in
-    let pre = start.requires in
-    let full : length args.s.links ≡ 256 = full-links start in
+    let args = c.args in
+    let pre = c.requires in
+    let full : length args.s.links ≡ 256 = search rules in
     (entries-of args.t.now index.result pre.0 index.ensures, rw index.ensures pre.1, omega arith)
 
 pub returns-then-not-chained : goal.returns-then-not-chained
 returns-then-not-chained c =
-    let start = c in
-    let args = start.args in
+    let args = c.args in
     let index2 = c.index-k in
     let index3 = c.index-p in
     let memory-fits = c.memory_fits in
     let if2 = c.if-not-memory_fits in
     let reals-ok = c.reals_ok in
     let if1 = c.if-not-reals_ok in
-    let full : length args.s.links ≡ 256 = full-links start in
+    let full : length args.s.links ≡ 256 = search rules in
     λ mem m. judged-unchained args.t.now mem args.s args.len index2.result index3.result m index2.ensures
     index3.ensures full memory-fits.result memory-fits.ensures if2.false (omega arith) reals-ok.result reals-ok.ensures if1.false
     c.chained.result c.chained.ensures c.if-not-chained.true
@@ -87,16 +72,14 @@ pub placed-requires : goal.placed-requires
 unfolding size
 placed-requires c =
     let index = c.index-n in
-    let start = c in
-    let args = start.args in
-    let pre = start.requires in
-    let full : length args.s.links ≡ 256 = full-links start in
+    let args = c.args in
+    let pre = c.requires in
+    let full : length args.s.links ≡ 256 = search rules in
     (pre.0, entries-of args.t.now index.result pre.0 index.ensures, rw index.ensures pre.1, omega arith)
 
 pub returns : goal.returns
 returns c =
-    let start = c in
-    let args = start.args in
+    let args = c.args in
     let index2 = c.index-k in
     let index3 = c.index-p in
     let memory-fits = c.memory_fits in
@@ -105,7 +88,7 @@ returns c =
     let if1 = c.if-not-reals_ok in
     let chained = c.chained in
     let if4 = c.if-not-chained in
-    let full : length args.s.links ≡ 256 = full-links start in
+    let full : length args.s.links ≡ 256 = search rules in
     λ mem m. judged-placed args.t.now mem args.s args.len index2.result index3.result m index2.ensures
     index3.ensures full memory-fits.result memory-fits.ensures if2.false (omega arith) reals-ok.result reals-ok.ensures if1.false chained.result
     chained.ensures if4.false c.placed.result c.placed.ensures

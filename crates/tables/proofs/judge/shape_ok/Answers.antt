@@ -8,8 +8,8 @@ use Rattle.tables.proofs.judge.shape_ok.Goals as goal
 
 pub returns-then-not-start_ok : goal.returns-then-not-start_ok
 unfolding shape_ok
-returns-then-not-start_ok c = sym (and_no _ _ (sym c.start_ok.ensures ∙ not-true c.start_ok.result c.if-not-start_ok.true))
+returns-then-not-start_ok c = sym (and_no _ _ (sym c.start_ok.ensures ∙ c.if-not-start_ok.true))
 
 pub returns : goal.returns
 unfolding shape_ok
-returns c = c.class_ok.ensures ∙ sym (and_yes _ _ (sym c.start_ok.ensures ∙ not-false c.start_ok.result c.if-not-start_ok.false))
+returns c = c.class_ok.ensures ∙ sym (and_yes _ _ (sym c.start_ok.ensures ∙ c.if-not-start_ok.false))

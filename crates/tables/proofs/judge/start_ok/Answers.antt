@@ -6,7 +6,7 @@ use mathlib.Core.Path.{sym, ◌∙◌}
 use Rattle.tables.proofs.judge.start_ok.Goals as goal
 
 pub returns-then-not-starts_section : goal.returns-then-not-starts_section
-returns-then-not-starts_section c = sym (or_yes _ _ (not-no _ (sym c.starts_section.ensures ∙ not-true c.starts_section.result c.if-not-starts_section.true)))
+returns-then-not-starts_section c = sym (or_yes _ _ (not-no _ (sym c.starts_section.ensures ∙ c.if-not-starts_section.true)))
 
 pub returns : goal.returns
-returns c = c.enters_outside.ensures ∙ sym (or_no _ _ (not_yes _ (sym c.starts_section.ensures ∙ not-false c.starts_section.result c.if-not-starts_section.false)))
+returns c = c.enters_outside.ensures ∙ sym (or_no _ _ (not_yes _ (sym c.starts_section.ensures ∙ c.if-not-starts_section.false)))
