@@ -117,20 +117,19 @@ fn reason_length(text: &[u8]) -> usize
     end
 }
 
-// An error's text at the front of the room: how many bytes of it there are.
-fn put_reason(room: &mut [u8; TEXT], error: &Error) -> usize
-    ensures { result ≤ 256 }
+// An error's text at the front of a room, and how many bytes of it there are.
+fn reason_of(error: &Error) -> ([u8; TEXT], usize)
+    ensures { result.1 ≤ 256 }
 {
-    let mut page = Cursor::new(&mut room[..]);
+    let mut page = Cursor::new([0u8; TEXT]);
     let _ = write!(page, "{error}");
     let n = page.position() as usize;
-    if n < TEXT { n } else { TEXT }
+    (page.into_inner(), if n < TEXT { n } else { TEXT })
 }
 
 // A line on standard error: what failed, and why.
 pub fn fail(what: &[u8], error: Error) {
-    let mut room = [0u8; TEXT];
-    let n = put_reason(&mut room, &error);
+    let (room, n) = reason_of(&error);
     let k = reason_length(&room[..n]);
     write_all(STDERR_FILENO, what);
     write_all(STDERR_FILENO, b": ");
