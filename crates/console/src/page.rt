@@ -2,8 +2,11 @@
 ghost use Rattle.std.specs.Prelude.{◌-◌, ◌≤◌, min, ◌≡◌};
 ghost use Rattle.console.specs.Page.{Puts};
 
+use crate::stream::fail;
 use io::{decimal, write_all};
-use libc::{STDERR_FILENO, STDOUT_FILENO};
+
+// The number of the stream of errors.
+pub const STDERR_FILENO: i32 = 2;
 
 // n less k, or 0.
 fn less(n: usize, k: usize) -> usize
@@ -39,13 +42,13 @@ pub fn put_number(page: &mut [u8], at: usize, n: u64) -> usize {
     put(page, at, &digits[..k])
 }
 
-// The front of a page on standard output.
-pub fn show(page: &[u8], n: usize) {
+// The front of a page on standard output; where that fails it is told on standard error.
+pub fn show<P: Print>(rt: &P, page: &[u8], n: usize) {
     if page.len() < n {
         return;
     }
-    if !write_all(STDOUT_FILENO, &page[0..n]) {
-        os::fail(b"standard output");
+    if let Err(error) = rt.write_all(&page[0..n]) {
+        fail(b"standard output", error);
     }
 }
 

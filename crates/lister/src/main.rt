@@ -7,7 +7,11 @@ ghost use Rattle.language.specs.Text.{lines};
 
 use asm_reader::{Step, line_at, line_behind};
 use io::{print_decimal, read_full, write_all};
-use libc::{STDIN_FILENO, STDOUT_FILENO};
+
+// The numbers of the streams of input and of output.
+const STDIN_FILENO: i32 = 0;
+
+const STDOUT_FILENO: i32 = 1;
 
 fn tell(n: usize) {
     write_all(STDOUT_FILENO, b" ");

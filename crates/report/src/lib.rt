@@ -4,13 +4,18 @@
 
 use assembler::{MAX_BYTES, MAX_TABLE};
 use bodies::entry::index;
+use console::page::STDERR_FILENO;
+use console::stream::{fail, read_full};
 use host::cards::torzimlak_assemble;
 use host::{torzimlak_run, torzimlak_start};
 use host_numbers::UPPER;
-use io::{print_decimal, read_full, write_all};
+use io::{print_decimal, write_all};
 use lent::{COUNT, IA, PLACE, WA, WB, WC, WORDS, XL, XR, XS};
-use libc::{STDERR_FILENO, STDOUT_FILENO};
 use ops::constants::Machine;
+use std::io::Read;
+
+// The number of the stream of output.
+pub const STDOUT_FILENO: i32 = 1;
 
 // One byte more than a text may have, so that a longer one is seen to be too long.
 const TEXT: usize = MAX_BYTES + 1;
@@ -114,29 +119,30 @@ pub fn run_cards(cards: &[u8]) {
 
 // Whether nothing is left to read behind n bytes of a room: it is full, or one more read finds the end. What failed is told on standard error,
 // under the input's name; a read that failed and then goes on is one that cut the cards.
-fn is_read(fd: i32, name: &[u8], n: usize) -> bool {
+fn is_read<R: Read>(input: &mut R, name: &[u8], n: usize) -> bool {
     if TEXT <= n {
         return true;
     }
     let mut behind = [0u8; 1];
-    let more = libc::read(fd, &mut behind);
-    if more < 0 {
-        os::fail(name);
-        return false;
+    match input.read(&mut behind) {
+        Ok(0) => true,
+        Ok(_) => {
+            write_all(STDERR_FILENO, name);
+            write_all(STDERR_FILENO, b": a read failed\n");
+            false
+        }
+        Err(error) => {
+            fail(name, error);
+            false
+        }
     }
-    if 0 < more {
-        write_all(STDERR_FILENO, name);
-        write_all(STDERR_FILENO, b": a read failed\n");
-        return false;
-    }
-    true
 }
 
-// The line of the cards that an open file holds; where it cannot be read no line, and why on standard error, under its name.
-pub fn tell_cards(fd: i32, name: &[u8]) {
+// The line of the cards that an input holds; where it cannot be read no line, and why on standard error, under its name.
+pub fn tell_cards<R: Read>(input: &mut R, name: &[u8]) {
     let mut text = [0u8; TEXT];
-    let n = read_full(fd, &mut text);
-    if !is_read(fd, name, n) {
+    let n = read_full(input, &mut text);
+    if !is_read(input, name, n) {
         return;
     }
     run_cards(&text[..n]);

@@ -5,6 +5,8 @@ use host::torzimlak_check_table;
 use host_numbers::UPPER;
 use loading::WORD;
 use snap_core::copy::{read_words, write_words};
+use std::random::RandomSource;
+use std::rt::{Env, Files};
 use tool_arguments::sizes::{is_table, tell_table};
 use tool_arguments::{FIRST, SECOND, read_file, refuse, write_file};
 
@@ -15,9 +17,9 @@ const TEXT: usize = MAX_BYTES + 1;
 const BYTES: usize = WORD * MAX_TABLE;
 
 // The table of the cards at the front of the room: its length, or 0 where they cannot be read or are refused, which is told.
-pub fn assemble_cards(room: &mut [u32]) -> usize {
+pub fn assemble_cards<R: Env + Files>(rt: &R, room: &mut [u32]) -> usize {
     let mut text = [0u8; TEXT];
-    let n = read_file(FIRST, &mut text);
+    let n = read_file(rt, FIRST, &mut text);
     if n == 0 {
         return 0;
     }
@@ -25,56 +27,56 @@ pub fn assemble_cards(room: &mut [u32]) -> usize {
     if r < UPPER {
         return r as usize;
     }
-    refuse(FIRST, r % UPPER, (r / UPPER) as u32);
+    refuse(rt, FIRST, r % UPPER, (r / UPPER) as u32);
     0
 }
 
 // The command `assemble CARDS TABLE`.
-pub fn on_assemble() {
+pub fn on_assemble<R: Env + Files + Print + RandomSource>(rt: &R) {
     let mut room = [0u32; MAX_TABLE];
-    let n = assemble_cards(&mut room);
+    let n = assemble_cards(rt, &mut room);
     if n == 0 {
         return;
     }
     if MAX_TABLE < n {
         return;
     }
-    write_table(&room[0..n]);
+    write_table(rt, &room[0..n]);
 }
 
 // The table as a file.
-fn write_table(table: &[u32]) {
+fn write_table<R: Env + Files + Print + RandomSource>(rt: &R, table: &[u32]) {
     if MAX_TABLE < table.len() {
         return;
     }
     let mut bytes = [0u8; BYTES];
     write_words(&mut bytes, 0, table);
-    if write_file(SECOND, &bytes[0..WORD * table.len()]) {
-        tell_table(SECOND, b": ", table);
+    if write_file(rt, SECOND, &bytes[0..WORD * table.len()]) {
+        tell_table(rt, SECOND, b": ", table);
     }
 }
 
 // The command `check TABLE`.
-pub fn on_check() {
+pub fn on_check<R: Env + Files + Print>(rt: &R) {
     let mut bytes = [0u8; BYTES + 1];
-    let n = read_file(FIRST, &mut bytes);
-    if is_table(n, BYTES) {
-        check_bytes(&bytes[..n]);
+    let n = read_file(rt, FIRST, &mut bytes);
+    if is_table(rt, n, BYTES) {
+        check_bytes(rt, &bytes[..n]);
     }
 }
 
 // Whether the words that the bytes hold are a lawful table.
-fn check_bytes(bytes: &[u8]) {
+fn check_bytes<R: Env + Print>(rt: &R, bytes: &[u8]) {
     let n = bytes.len();
     if BYTES < n {
         return;
     }
     let k = n / WORD;
     let mut room = [0u32; MAX_TABLE];
-    check_in(bytes, &mut room[0..k]);
+    check_in(rt, bytes, &mut room[0..k]);
 }
 
-fn check_in(bytes: &[u8], room: &mut [u32]) {
+fn check_in<R: Env + Print>(rt: &R, bytes: &[u8], room: &mut [u32]) {
     let n = room.len();
     if MAX_TABLE < n {
         return;
@@ -83,14 +85,14 @@ fn check_in(bytes: &[u8], room: &mut [u32]) {
         return;
     }
     read_words(bytes, 0, room);
-    check_words(room);
+    check_words(rt, room);
 }
 
-fn check_words(table: &[u32]) {
+fn check_words<R: Env + Print>(rt: &R, table: &[u32]) {
     let number = torzimlak_check_table(table);
     if number != 0 {
-        refuse(FIRST, 0, number);
+        refuse(rt, FIRST, 0, number);
         return;
     }
-    tell_table(FIRST, b": lawful, ", table);
+    tell_table(rt, FIRST, b": lawful, ", table);
 }

@@ -11,6 +11,8 @@ use loading::WORD;
 use ops::constants::Machine;
 use snap_core::layout::TRAILER;
 use snap_core::trailer::{MEMORY, trailer_word};
+use std::random::RandomSource;
+use std::rt::{Env, Files};
 use tool_arguments::sizes::{is_snapshot, tell_snapshot};
 use tool_arguments::{FIRST, SECOND, read_file, refuse, write_file};
 use tool_command::Task;
@@ -33,16 +35,16 @@ const SNAPSHOT: usize = WORD * (MOST + Machine::MAX_LINKS + Machine::MAX_FRESH) 
 const NOT_WAITING: u32 = 33;
 
 // The commands `run CARDS`, `freeze CARDS SNAPSHOT` and `wake CARDS SNAPSHOT`, with fresh words behind.
-pub fn on_program(task: Task) {
+pub fn on_program<R: Env + Files + Print + RandomSource>(rt: &R, task: Task) {
     let mut room = [0u32; MAX_TABLE];
-    let n = assemble_cards(&mut room);
+    let n = assemble_cards(rt, &mut room);
     if n == 0 {
         return;
     }
     if MAX_TABLE < n {
         return;
     }
-    on_table(task, &room[0..n]);
+    on_table(rt, task, &room[0..n]);
 }
 
 // The argument with the first fresh word.
@@ -53,27 +55,38 @@ fn first_word(task: Task) -> u32 {
     }
 }
 
-fn on_table(task: Task, table: &[u32]) {
+fn on_table<R: Env + Files + Print + RandomSource>(rt: &R, task: Task, table: &[u32]) {
     let n = fresh_in(table);
     let mut fresh = [0u32; Machine::MAX_FRESH];
-    on_room(task, table, &mut fresh[0..n]);
+    on_room(rt, task, table, &mut fresh[0..n]);
 }
 
 // The table's program, with room for its fresh words.
-fn on_room(task: Task, table: &[u32], fresh: &mut [u32]) {
-    let how = fresh_words(first_word(task), fresh);
-    on_fresh(task, table, fresh, how);
+fn on_room<R: Env + Files + Print + RandomSource>(
+    rt: &R,
+    task: Task,
+    table: &[u32],
+    fresh: &mut [u32],
+) {
+    let how = fresh_words(rt, first_word(task), fresh);
+    on_fresh(rt, task, table, fresh, how);
 }
 
 // What is done with a table, once its fresh words are there.
-fn on_fresh(task: Task, table: &[u32], fresh: &[u32], how: Supply) {
+fn on_fresh<R: Env + Files + Print + RandomSource>(
+    rt: &R,
+    task: Task,
+    table: &[u32],
+    fresh: &[u32],
+    how: Supply,
+) {
     if let Supply::Refused = how {
         return;
     }
     match task {
-        Task::Run => run_fresh(table, fresh, how, false),
-        Task::Freeze => run_fresh(table, fresh, how, true),
-        Task::Wake => wake_file(table, fresh, how),
+        Task::Run => run_fresh(rt, table, fresh, how, false),
+        Task::Freeze => run_fresh(rt, table, fresh, how, true),
+        Task::Wake => wake_file(rt, table, fresh, how),
         _ => {}
     }
 }
@@ -93,17 +106,24 @@ fn begin(table: &[u32], memory: &mut [u32], fresh: &[u32], state: &mut [u32]) ->
 }
 
 // The program from its start, frozen after that or not.
-fn run_fresh(table: &[u32], fresh: &[u32], how: Supply, frozen: bool) {
+fn run_fresh<R: Env + Files + Print + RandomSource>(
+    rt: &R,
+    table: &[u32],
+    fresh: &[u32],
+    how: Supply,
+    frozen: bool,
+) {
     let mut memory = [0u32; MOST];
     let mut state = [0u32; WORDS];
     let r = begin(table, &mut memory, fresh, &mut state);
-    if has_run(FIRST, r) {
-        on_run(table, &memory, &state, fresh.len(), how, frozen, r);
+    if has_run(rt, FIRST, r) {
+        on_run(rt, table, &memory, &state, fresh.len(), how, frozen, r);
     }
 }
 
 // A program that was stopped is told of, and not frozen.
-fn on_run(
+fn on_run<R: Env + Files + Print + RandomSource>(
+    rt: &R,
     table: &[u32],
     memory: &[u32],
     state: &[u32],
@@ -113,45 +133,50 @@ fn on_run(
     r: u64,
 ) {
     if !frozen {
-        tell_run(how, fresh, table, memory, state, r);
+        tell_run(rt, how, fresh, table, memory, state, r);
         return;
     }
     if is_stopped(r) {
-        tell_run(how, fresh, table, memory, state, r);
+        tell_run(rt, how, fresh, table, memory, state, r);
         return;
     }
-    let n = write_machine(table, memory, state);
+    let n = write_machine(rt, table, memory, state);
     if n == 0 {
         return;
     }
-    tell_run(how, fresh, table, memory, state, r);
-    tell_snapshot(n);
+    tell_run(rt, how, fresh, table, memory, state, r);
+    tell_snapshot(rt, n);
 }
 
 // The machine as a file: its length, or 0 where there is none, which is told.
-fn write_machine(table: &[u32], memory: &[u32], state: &[u32]) -> usize {
+fn write_machine<R: Env + Files + RandomSource>(
+    rt: &R,
+    table: &[u32],
+    memory: &[u32],
+    state: &[u32],
+) -> usize {
     let mut room = [0u8; SNAPSHOT];
     let r = torzimlak_write(table, memory, state, BUILD, &mut room);
     if UPPER <= r {
-        refuse(FIRST, 0, (r / UPPER) as u32);
+        refuse(rt, FIRST, 0, (r / UPPER) as u32);
         return 0;
     }
     let n = r as usize;
     if SNAPSHOT < n {
         return 0;
     }
-    if write_file(SECOND, &room[0..n]) {
+    if write_file(rt, SECOND, &room[0..n]) {
         return n;
     }
     0
 }
 
 // The machine of the snapshot.
-fn wake_file(table: &[u32], fresh: &[u32], how: Supply) {
+fn wake_file<R: Env + Files + Print>(rt: &R, table: &[u32], fresh: &[u32], how: Supply) {
     let mut bytes = [0u8; SNAPSHOT + 1];
-    let n = read_file(SECOND, &mut bytes);
-    if is_snapshot(n, SNAPSHOT) {
-        wake_bytes(table, &bytes[..n], fresh, how);
+    let n = read_file(rt, SECOND, &mut bytes);
+    if is_snapshot(rt, n, SNAPSHOT) {
+        wake_bytes(rt, table, &bytes[..n], fresh, how);
     }
 }
 
@@ -166,18 +191,25 @@ fn frozen_words(file: &[u8]) -> usize
     if MOST < m { MOST } else { m }
 }
 
-fn wake_bytes(table: &[u32], file: &[u8], fresh: &[u32], how: Supply) {
+fn wake_bytes<R: Env + Print>(rt: &R, table: &[u32], file: &[u8], fresh: &[u32], how: Supply) {
     let m = frozen_words(file);
     let mut memory = [0u32; MOST];
-    wake_in(table, file, fresh, how, &mut memory[0..m]);
+    wake_in(rt, table, file, fresh, how, &mut memory[0..m]);
 }
 
 // The machine of the file in this memory.
-fn wake_in(table: &[u32], file: &[u8], fresh: &[u32], how: Supply, memory: &mut [u32]) {
+fn wake_in<R: Env + Print>(
+    rt: &R,
+    table: &[u32],
+    file: &[u8],
+    fresh: &[u32],
+    how: Supply,
+    memory: &mut [u32],
+) {
     let mut state = [0u32; WORDS];
     let r = wake(table, file, memory, fresh, &mut state);
-    if has_run(SECOND, r) {
-        tell_run(how, fresh.len(), table, memory, &state, r);
+    if has_run(rt, SECOND, r) {
+        tell_run(rt, how, fresh.len(), table, memory, &state, r);
     }
 }
 

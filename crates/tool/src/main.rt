@@ -13,13 +13,13 @@ mod cards;
 mod machines;
 mod operations;
 
-fn main() {
-    let task = asked();
+fn main(rt: HostRuntime) {
+    let task = asked(&rt);
     match task {
         Task::Nothing => {}
-        Task::Assemble => on_assemble(),
-        Task::Check => on_check(),
-        Task::Operations => on_operations(),
-        _ => on_program(task),
+        Task::Assemble => on_assemble(&rt),
+        Task::Check => on_check(&rt),
+        Task::Operations => on_operations(&rt),
+        _ => on_program(&rt, task),
     }
 }

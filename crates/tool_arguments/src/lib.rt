@@ -5,58 +5,62 @@ ghost use Rattle.io.specs.Counts.{IsPrefixLen};
 
 pub mod sizes;
 
+use console::stream::arg;
+use std::random::RandomSource;
+use std::rt::{Env, Files};
+
 // The arguments with a command's first file, the cards of those that have any, and with its second.
 pub const FIRST: usize = 2;
 
 pub const SECOND: usize = 3;
 
 // The file that argument i names, as `tool_files::read_file` reads it.
-pub fn read_file(i: usize, room: &mut [u8]) -> usize
+pub fn read_file<R: Env + Files>(rt: &R, i: usize, room: &mut [u8]) -> usize
     ensures { IsPrefixLen result room.new }
 {
     let mut path = io::buffer();
-    let n = os::arg(i, &mut path);
-    tool_files::read_file(&path[..n], room)
+    let n = arg(rt, i, &mut path);
+    tool_files::read_file(rt, &path[..n], room)
 }
 
 // The bytes as that file, as `tool_files::write_file` writes it.
-pub fn write_file(i: usize, bytes: &[u8]) -> bool {
+pub fn write_file<R: Env + Files + RandomSource>(rt: &R, i: usize, bytes: &[u8]) -> bool {
     let mut path = io::buffer();
-    let n = os::arg(i, &mut path);
-    tool_files::write_file(&path[..n], bytes)
+    let n = arg(rt, i, &mut path);
+    tool_files::write_file(rt, &path[..n], bytes)
 }
 
 // A line on standard error: that file, and what is wrong with it.
-pub fn tell(i: usize, what: &[u8]) {
+pub fn tell<E: Env>(rt: &E, i: usize, what: &[u8]) {
     let mut path = io::buffer();
-    let n = os::arg(i, &mut path);
+    let n = arg(rt, i, &mut path);
     tool_files::tell(&path[..n], what);
 }
 
 // A line on standard output by its form, with that file's path as its text.
-pub fn say(i: usize, form: &[u8], other: &[u8], numbers: &[u64]) {
+pub fn say<R: Env + Print>(rt: &R, i: usize, form: &[u8], other: &[u8], numbers: &[u64]) {
     let mut path = io::buffer();
-    let n = os::arg(i, &mut path);
-    tool_forms::say(form, &path[..n], other, numbers);
+    let n = arg(rt, i, &mut path);
+    tool_forms::say(rt, form, &path[..n], other, numbers);
 }
 
 // A refusal of that file, with the line of its cards, if there is one.
-pub fn refuse(i: usize, line: u64, number: u32) {
+pub fn refuse<E: Env>(rt: &E, i: usize, line: u64, number: u32) {
     let mut path = io::buffer();
-    let n = os::arg(i, &mut path);
+    let n = arg(rt, i, &mut path);
     tool_answers::refuse(&path[..n], line, number);
 }
 
 // The refusal of fresh words that are too few or too many for the cards.
-pub fn refuse_count(needed: usize, given: usize) {
+pub fn refuse_count<E: Env>(rt: &E, needed: usize, given: usize) {
     let mut path = io::buffer();
-    let n = os::arg(FIRST, &mut path);
+    let n = arg(rt, FIRST, &mut path);
     tool_answers::refuse_count(&path[..n], needed, given);
 }
 
 // The ending that stopped the program of the cards.
-pub fn tell_stop(number: u32) {
+pub fn tell_stop<E: Env>(rt: &E, number: u32) {
     let mut path = io::buffer();
-    let n = os::arg(FIRST, &mut path);
+    let n = arg(rt, FIRST, &mut path);
     tool_answers::tell_stop(&path[..n], number);
 }

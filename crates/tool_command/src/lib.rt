@@ -6,6 +6,8 @@ ghost use Rattle.std.specs.Prelude.{◌≤◌, length};
 use asm_text::{BLANK, find_byte};
 use check::same;
 use console::lines::line_of;
+use console::stream::{arg, arg_count, fail, whole_arg};
+use std::rt::Env;
 use tool_files::tell;
 use tool_forms::{say, warn};
 
@@ -24,8 +26,9 @@ pub enum Task {
 // The most files that a command takes.
 const MOST_FILES: usize = 8;
 
-fn help() {
+fn help<P: Print>(rt: &P) {
     say(
+        rt,
         b"$",
         b"",
         b"usage:
@@ -161,27 +164,28 @@ fn takes(line: &[u8], files: usize, count: usize) -> bool
 }
 
 // Whether argument i can be a path; one that is empty or too long is told of under its name.
-fn has_path(i: usize, name: &[u8]) -> bool {
+fn has_path<E: Env>(rt: &E, i: usize, name: &[u8]) -> bool {
     let mut room = io::buffer();
-    let n = os::arg(i, &mut room);
-    if os::errno() != 0 {
-        os::fail(name);
-        return false;
+    match whole_arg(rt, i, &mut room) {
+        Ok(0) => {
+            tell(name, b"the name of the file is empty");
+            false
+        }
+        Ok(_) => true,
+        Err(error) => {
+            fail(name, error);
+            false
+        }
     }
-    if n == 0 {
-        tell(name, b"the name of the file is empty");
-        return false;
-    }
-    true
 }
 
 // Whether the arguments for so many files can be paths; the first that cannot is told under its name.
-fn has_files(line: &[u8], files: usize) -> bool
+fn has_files<E: Env>(rt: &E, line: &[u8], files: usize) -> bool
     requires { files ≤ 8 }
 {
     let mut i: usize = 1;
     while i <= files {
-        if !has_path(i + 1, word_of(line, i)) {
+        if !has_path(rt, i + 1, word_of(line, i)) {
             return false;
         }
         i += 1;
@@ -190,13 +194,13 @@ fn has_files(line: &[u8], files: usize) -> bool
 }
 
 // The command of a line, if it has the arguments that the line names.
-fn judged(line: &[u8], command: usize, count: usize) -> Task {
+fn judged<E: Env>(rt: &E, line: &[u8], command: usize, count: usize) -> Task {
     let files = files_in(line);
     if !takes(line, files, count) {
         misuse(command);
         return Task::Nothing;
     }
-    if has_files(line, files) {
+    if has_files(rt, line, files) {
         return task_of(command);
     }
     Task::Nothing
@@ -228,30 +232,31 @@ fn command_in(commands: &[u8], name: &[u8]) -> usize {
 }
 
 // The command of this name in a text with a line for each.
-fn found(commands: &[u8], name: &[u8], count: usize) -> Task {
+fn found<E: Env>(rt: &E, commands: &[u8], name: &[u8], count: usize) -> Task {
     let k = command_in(commands, name);
     if k == 0 {
         misuse(k);
         return Task::Nothing;
     }
-    judged(line_of(commands, k), k, count)
+    judged(rt, line_of(commands, k), k, count)
 }
 
 // The task that the arguments ask for. Each command has a line here: its name, the names of its files, and `...` where fresh
 // words may follow, or in brackets what may be left out.
-pub fn asked() -> Task {
-    let count = os::arg_count();
+pub fn asked<R: Env + Print>(rt: &R) -> Task {
+    let count = arg_count(rt);
     let mut name = [0u8; 16];
-    let n = os::arg(1, &mut name);
+    let n = arg(rt, 1, &mut name);
     if count < 2 {
-        help();
+        help(rt);
         return Task::Nothing;
     }
     if is_help(&name[..n]) {
-        help();
+        help(rt);
         return Task::Nothing;
     }
     found(
+        rt,
         b"
 assemble CARDS TABLE
 check TABLE

@@ -3,11 +3,12 @@
 
 ghost use Rattle.std.specs.Prelude.{◌≤◌, length};
 ghost use Rattle.io.specs.Counts.{IsPrefixLen};
-ghost use Rattle.libc.specs.Io.{Ended};
 
-use console::page::put;
-use io::{read_full, write_all};
-use libc::PATH_MAX;
+use console::stream::{fail, open_read, read_full, text_of};
+use std::fs::{OpenFile, OpenOptions, remove_file, rename, symlink_metadata};
+use std::io::{Error, ErrorKind, Read, Result, Write};
+use std::random::RandomSource;
+use std::rt::Files;
 use tool_forms::{put_form, warn};
 use words::word_of;
 
@@ -16,67 +17,90 @@ pub fn tell(path: &[u8], what: &[u8]) {
     warn(b"%: $\n", path, what, &[]);
 }
 
+// A file to be read and written, which keeps its bytes.
+fn open_update<R: Files>(rt: &R, path: &[u8]) -> Result<R::File> {
+    OpenOptions::new()
+        .read(true)
+        .write(true)
+        .open(rt, text_of(path)?)
+}
+
+// A new file to be written.
+fn create<R: Files>(rt: &R, path: &[u8]) -> Result<R::File> {
+    OpenOptions::new()
+        .write(true)
+        .create_new(true)
+        .open(rt, text_of(path)?)
+}
+
 // Fills the room from the file's front and answers how many bytes it got; 0 where there are none or the file cannot be read, which is told.
 // A folder opens like a file, so that only the read behind the last byte tells its error.
-pub fn read_file(path: &[u8], room: &mut [u8]) -> usize
+pub fn read_file<R: Files>(rt: &R, path: &[u8], room: &mut [u8]) -> usize
     ensures { IsPrefixLen result room.new }
 {
-    let fd = os::open_read(path);
-    if fd < 0 {
-        os::fail(path);
-        return 0;
+    match open_read(rt, path) {
+        Ok(file) => read_open(file, path, room),
+        Err(error) => {
+            fail(path, error);
+            0
+        }
     }
-    let n = read_full(fd, room);
+}
+
+// The same of a file that is open.
+fn read_open<F: Read + Drop>(mut file: F, path: &[u8], room: &mut [u8]) -> usize
+    ensures { IsPrefixLen result room.new }
+{
+    let n = read_full(&mut file, room);
     let mut behind = [0u8; 1];
-    let more = libc::read(fd, &mut behind);
-    if more < 0 {
-        os::fail(path);
-        libc::close(fd);
+    if let Err(error) = file.read(&mut behind) {
+        fail(path, error);
         return 0;
     }
-    libc::close(fd);
     if n == 0 {
         tell(path, b"the file is empty");
     }
     n
 }
 
-// The path as C reads it, ended by 0.
-fn ended(path: &[u8]) -> [u8; PATH_MAX]
-    ensures { Ended result }
-{
-    let mut room = io::buffer();
-    put(&mut room, 0, path);
-    room[PATH_MAX - 1] = 0;
-    room
-}
-
-fn is_link(path: &[u8]) -> bool {
-    let name = ended(path);
-    let mut text = [0u8; 1];
-    libc::readlink(&name, &mut text) >= 0
+fn is_link<R: Files>(rt: &R, path: &[u8]) -> bool {
+    let Ok(text) = text_of(path) else {
+        return false;
+    };
+    match symlink_metadata(rt, text) {
+        Ok(data) => data.is_symlink(),
+        Err(_) => false,
+    }
 }
 
 // Whether a new file may take the path: there is none yet, or a plain one that may be written. A device or a pipe cannot be synchronized.
-fn may_replace(path: &[u8]) -> bool {
-    if is_link(path) {
+fn may_replace<R: Files>(rt: &R, path: &[u8]) -> bool {
+    if is_link(rt, path) {
         tell(path, b"this is a link; name the file itself");
         return false;
     }
-    let fd = os::open_update(path);
-    if fd < 0 {
-        if os::errno() == libc::ENOENT {
-            return true;
-        }
-        os::fail(path);
-        return false;
+    match open_update(rt, path) {
+        Ok(file) => is_plain(file, path),
+        Err(error) => is_missing(path, error),
     }
-    let plain = libc::fsync(fd) == 0;
-    libc::close(fd);
+}
+
+// Whether an open file is a plain one; that it is none is told.
+fn is_plain<F: OpenFile + Drop>(file: F, path: &[u8]) -> bool {
+    let plain = file.sync_all().is_ok();
     if !plain {
         tell(path, b"this is not a plain file");
     }
     plain
+}
+
+// Whether a file could not be opened because there is none; another error is told.
+fn is_missing(path: &[u8], error: Error) -> bool {
+    if error.kind() == ErrorKind::NotFound {
+        return true;
+    }
+    fail(path, error);
+    false
 }
 
 // How many bytes of a path name its folder, the last slash among them.
@@ -94,64 +118,75 @@ fn folder(path: &[u8]) -> usize
 }
 
 // Four bytes that other runs do not have, as a number.
-fn chance() -> u32 {
+fn chance<R: RandomSource>(rt: &R) -> u32 {
     let mut four = [0u8; 4];
-    libc::getentropy(&mut four);
+    let _ = rt.fill_bytes(&mut four);
     word_of(four[0], four[1], four[2], four[3])
 }
 
 // The name of a new file in the folder of the path.
-fn put_beside(name: &mut [u8], path: &[u8]) -> usize {
+fn put_beside<R: RandomSource>(rt: &R, name: &mut [u8], path: &[u8]) -> usize {
     let k = folder(path);
-    let number = [chance() as u64; 1];
+    let number = [chance(rt) as u64; 1];
     put_form(name, 0, b"%.torzimlak-#", &path[0..k], b"", &number)
 }
 
-// All bytes are written and have reached the device.
-fn is_kept(fd: i32, bytes: &[u8]) -> bool {
-    if !write_all(fd, bytes) {
-        return false;
-    }
-    libc::fsync(fd) == 0
+// All bytes are written to an open file, and have reached the device; the file is closed.
+fn keep<F: Write + OpenFile + Drop>(mut file: F, bytes: &[u8]) -> Result<()> {
+    file.write_all(bytes)?;
+    file.sync_all()
 }
 
-// Removes a file that was not finished; the reason that errno has is told first.
-fn give_up(path: &[u8], name: &[u8]) -> bool {
-    os::fail(path);
-    os::unlink(name);
+// A new file takes the path.
+fn move_to<R: Files>(rt: &R, name: &[u8], path: &[u8]) -> Result<()> {
+    rename(rt, text_of(name)?, text_of(path)?)
+}
+
+// The bytes in an open file of this name, which then takes the path.
+fn replace_by<R: Files>(
+    rt: &R,
+    file: R::File,
+    path: &[u8],
+    name: &[u8],
+    bytes: &[u8],
+) -> Result<()> {
+    keep(file, bytes)?;
+    move_to(rt, name, path)
+}
+
+// Removes a file that was not finished; why is told first.
+fn give_up<R: Files>(rt: &R, path: &[u8], name: &[u8], error: Error) -> bool {
+    fail(path, error);
+    if let Ok(text) = text_of(name) {
+        let _ = remove_file(rt, text);
+    }
     false
 }
 
 // The bytes in a new file of this name, which then takes the path.
-fn write_by(path: &[u8], name: &[u8], bytes: &[u8]) -> bool {
-    let fd = os::create(name);
-    if fd < 0 {
-        os::fail(path);
-        return false;
+fn write_by<R: Files>(rt: &R, path: &[u8], name: &[u8], bytes: &[u8]) -> bool {
+    let file = match create(rt, name) {
+        Ok(file) => file,
+        Err(error) => {
+            fail(path, error);
+            return false;
+        }
+    };
+    match replace_by(rt, file, path, name, bytes) {
+        Ok(()) => true,
+        Err(error) => give_up(rt, path, name, error),
     }
-    if !is_kept(fd, bytes) {
-        give_up(path, name);
-        libc::close(fd);
-        return false;
-    }
-    if libc::close(fd) < 0 {
-        return give_up(path, name);
-    }
-    if os::rename(name, path) < 0 {
-        return give_up(path, name);
-    }
-    true
 }
 
 // The bytes as the whole of a file; where that fails it is told, and what stood there stands there still.
-pub fn write_file(path: &[u8], bytes: &[u8]) -> bool {
-    if !may_replace(path) {
+pub fn write_file<R: Files + RandomSource>(rt: &R, path: &[u8], bytes: &[u8]) -> bool {
+    if !may_replace(rt, path) {
         return false;
     }
     let mut room = io::large_buffer();
-    let n = put_beside(&mut room, path);
+    let n = put_beside(rt, &mut room, path);
     if room.len() < n {
         return false;
     }
-    write_by(path, &room[0..n], bytes)
+    write_by(rt, path, &room[0..n], bytes)
 }

@@ -59,10 +59,10 @@ pub fn put_form(
 }
 
 // The message on standard output.
-pub fn say(form: &[u8], text: &[u8], other: &[u8], numbers: &[u64]) {
+pub fn say<P: Print>(rt: &P, form: &[u8], text: &[u8], other: &[u8], numbers: &[u64]) {
     let mut page = io::large_buffer();
     let n = put_form(&mut page, 0, form, text, other, numbers);
-    show(&page, n);
+    show(rt, &page, n);
 }
 
 // The message on standard error.

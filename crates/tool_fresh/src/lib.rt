@@ -3,8 +3,11 @@
 
 ghost use Rattle.std.specs.Prelude.{◌≤◌};
 
+use console::stream::{arg, arg_count, fail};
 use console::word::{Word, word_in};
 use ops::constants::Machine;
+use std::random::RandomSource;
+use std::rt::Env;
 use tool_arguments::refuse_count;
 use tool_files::tell;
 use words::word_of;
@@ -22,9 +25,9 @@ pub enum Supply {
 }
 
 // The word that argument i is; one that is none is told.
-fn word_at(i: usize) -> Word {
+fn word_at<E: Env>(rt: &E, i: usize) -> Word {
     let mut text = io::buffer();
-    let n = os::arg(i, &mut text);
+    let n = arg(rt, i, &mut text);
     let w = word_in(&text[..n]);
     if let Word::Not = w {
         tell(&text[..n], b"this is no whole number from 0 to 4294967295");
@@ -33,33 +36,33 @@ fn word_at(i: usize) -> Word {
 }
 
 // A word that the system draws by chance; that it cannot is told.
-fn drawn() -> Word {
+fn drawn<R: RandomSource>(rt: &R) -> Word {
     let mut four = [0u8; 4];
-    if libc::getentropy(&mut four) < 0 {
-        os::fail(b"fresh words");
+    if let Err(error) = rt.fill_bytes(&mut four) {
+        fail(b"fresh words", error);
         return Word::Not;
     }
     Word::Is(word_of(four[0], four[1], four[2], four[3]))
 }
 
 // The fresh word for argument i.
-fn supplied(how: Supply, i: usize) -> Word {
+fn supplied<R: Env + RandomSource>(rt: &R, how: Supply, i: usize) -> Word {
     match how {
-        Supply::System => drawn(),
-        Supply::Given => word_at(i),
+        Supply::System => drawn(rt),
+        Supply::Given => word_at(rt, i),
         _ => Word::Not,
     }
 }
 
 // Fills the room with words, those of the arguments from argument first on.
-fn fill(how: Supply, first: u32, room: &mut [u32]) -> bool {
+fn fill<R: Env + RandomSource>(rt: &R, how: Supply, first: u32, room: &mut [u32]) -> bool {
     let n = room.len();
     if Machine::MAX_FRESH < n {
         return false;
     }
     let mut i: usize = 0;
     while i < n {
-        let w = supplied(how, first as usize + i);
+        let w = supplied(rt, how, first as usize + i);
         let Word::Is(x) = w else {
             return false;
         };
@@ -70,8 +73,8 @@ fn fill(how: Supply, first: u32, room: &mut [u32]) -> bool {
 }
 
 // Where so many words as are needed come from, if the arguments from argument first on are words.
-fn supply_of(first: u32, needed: usize) -> Supply {
-    let count = os::arg_count();
+fn supply_of<E: Env>(rt: &E, first: u32, needed: usize) -> Supply {
+    let count = arg_count(rt);
     if count <= first as usize {
         if needed == 0 {
             return Supply::Nothing;
@@ -82,14 +85,14 @@ fn supply_of(first: u32, needed: usize) -> Supply {
     if given == needed {
         return Supply::Given;
     }
-    refuse_count(needed, given);
+    refuse_count(rt, needed, given);
     Supply::Refused
 }
 
 // Fills the room with fresh words: those from argument first on, or, where there are none, the system's.
-pub fn fresh_words(first: u32, room: &mut [u32]) -> Supply {
-    let how = supply_of(first, room.len());
-    if fill(how, first, room) {
+pub fn fresh_words<R: Env + RandomSource>(rt: &R, first: u32, room: &mut [u32]) -> Supply {
+    let how = supply_of(rt, first, room.len());
+    if fill(rt, how, first, room) {
         return how;
     }
     Supply::Refused

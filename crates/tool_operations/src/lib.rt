@@ -186,7 +186,7 @@ fn put_row(page: &mut [u8], at: usize, row: &[u8; CELLS]) -> usize {
 }
 
 // The whole table.
-pub fn show_rows() {
+pub fn show_rows<P: Print>(rt: &P) {
     let table = rows();
     let mut page = io::buffer();
     let mut at: usize = 0;
@@ -195,35 +195,35 @@ pub fn show_rows() {
         at = put_row(&mut page, at, &table[i]);
         i += 1;
     }
-    show(&page, at);
+    show(rt, &page, at);
 }
 
-fn show_unknown() {
+fn show_unknown<P: Print>(rt: &P) {
     let mut page = io::buffer();
     let n = put(&mut page, 0, b"unknown\n");
-    show(&page, n);
+    show(rt, &page, n);
 }
 
 // Row i.
-fn show_at(i: usize)
+fn show_at<P: Print>(rt: &P, i: usize)
     requires { i < 106 }
 {
     let table = rows();
     let mut page = io::buffer();
     let n = put_row(&mut page, 0, &table[i]);
-    show(&page, n);
+    show(rt, &page, n);
 }
 
 // The row that has a mnemonic, or that no row has it.
-pub fn show_row(name: &[u8]) {
+pub fn show_row<P: Print>(rt: &P, name: &[u8]) {
     if name.len() != 3 {
-        show_unknown();
+        show_unknown(rt);
         return;
     }
     let found = find_letters(name[0], name[1], name[2]);
     let Lookup::Row(i) = found else {
-        show_unknown();
+        show_unknown(rt);
         return;
     };
-    show_at(i);
+    show_at(rt, i);
 }

@@ -5,6 +5,7 @@
 use console::lines::line_of;
 use console::page::show;
 use ops::constants::Machine;
+use std::rt::Env;
 use tool_answers::put_answer;
 use tool_arguments::{refuse, tell_stop};
 use tool_forms::put_form;
@@ -63,14 +64,14 @@ const FRESH: usize = 3;
 const VALUE: usize = 3;
 
 // Whether an answer is a run's; a refusal is told of the file that argument i names.
-pub fn has_run(i: usize, r: u64) -> bool {
+pub fn has_run<E: Env>(rt: &E, i: usize, r: u64) -> bool {
     let number = r / UPPER;
     if ENDING <= number {
         if number < PAST_ENDING {
             return true;
         }
     }
-    refuse(i, 0, number as u32);
+    refuse(rt, i, 0, number as u32);
     false
 }
 
@@ -221,7 +222,8 @@ fn put_run(
 }
 
 // The run's report on standard output, and a line on standard error if the program was stopped.
-pub fn tell_run(
+pub fn tell_run<R: Env + Print>(
+    rt: &R,
     supply: Supply,
     fresh: usize,
     table: &[u32],
@@ -231,8 +233,8 @@ pub fn tell_run(
 ) {
     let mut page = io::large_buffer();
     let n = put_run(&mut page, supply, fresh, table, memory, state, r);
-    show(&page, n);
+    show(rt, &page, n);
     if is_stopped(r) {
-        tell_stop((r / UPPER) as u32);
+        tell_stop(rt, (r / UPPER) as u32);
     }
 }

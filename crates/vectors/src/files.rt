@@ -5,21 +5,22 @@ ghost use Rattle.io.specs.Counts.{IsPrefixLen};
 use super::references::tell_reference;
 use super::telling::{end_line, say};
 use assembler::{Assembled, MAX_TABLE, assemble, line, number};
+use console::stream::{arg_count, fail, open_read, read_full, whole_arg};
 use report::{run_cards, tell};
+use std::rt::{Env, Files};
 
 // The bytes of a file at the front of the room; how many they are. None, and the failure told, where it cannot be opened. A text that fills the room is
 // too long in any case.
-fn read_file(path: &[u8], room: &mut [u8]) -> usize
+fn read_file<R: Files>(rt: &R, path: &[u8], room: &mut [u8]) -> usize
     ensures { IsPrefixLen result room.new }
 {
-    let fd = os::open_read(path);
-    if fd < 0 {
-        os::fail(path);
-        return 0;
+    match open_read(rt, path) {
+        Ok(mut file) => read_full(&mut file, room),
+        Err(error) => {
+            fail(path, error);
+            0
+        }
     }
-    let n = io::read_full(fd, room);
-    libc::close(fd);
-    n
 }
 
 // The table's length, or the refusal's line.
@@ -54,33 +55,31 @@ fn tell_text(sort: u8, name: &[u8], text: &[u8]) {
 }
 
 // The line of the file at a path, if the folder's name, of `at` bytes, begins with this letter.
-fn tell_file(sort: u8, at: usize, path: &[u8]) {
+fn tell_file<R: Files>(rt: &R, sort: u8, at: usize, path: &[u8]) {
     if at < path.len() {
         if path[0] != sort {
             return;
         }
         let mut text = io::large_buffer();
-        let n = read_file(path, &mut text);
+        let n = read_file(rt, path, &mut text);
         tell_text(sort, &path[at..], &text[..n]);
     }
 }
 
-fn on_argument(sort: u8, at: usize, i: usize) {
+fn on_argument<R: Env + Files>(rt: &R, sort: u8, at: usize, i: usize) {
     let mut path = io::buffer();
-    let n = os::arg(i, &mut path);
-    if os::errno() != 0 {
-        os::fail(b"argument");
-        return;
+    match whole_arg(rt, i, &mut path) {
+        Ok(n) => tell_file(rt, sort, at, &path[..n]),
+        Err(error) => fail(b"argument", error),
     }
-    tell_file(sort, at, &path[..n]);
 }
 
 // The lines of a folder's files, in the order of the arguments: its first letter, and how many bytes of a path it takes.
-pub fn each_file(sort: u8, at: usize) {
-    let n = os::arg_count();
+pub fn each_file<R: Env + Files>(rt: &R, sort: u8, at: usize) {
+    let n = arg_count(rt);
     let mut i: usize = 1;
     while i < n {
-        on_argument(sort, at, i);
+        on_argument(rt, sort, at, i);
         i += 1;
     }
 }

@@ -14,13 +14,13 @@ mod snapshots;
 mod telling;
 
 // A folder goes by its first letter and by how many bytes of a path it takes.
-fn main() {
+fn main(rt: HostRuntime) {
     say(b"examples\n");
-    each_file(b'e', 9);
+    each_file(&rt, b'e', 9);
     say(b"decks\n");
-    each_file(b'd', 6);
+    each_file(&rt, b'd', 6);
     say(b"reference runs\n");
-    each_file(b'r', 11);
+    each_file(&rt, b'r', 11);
     say(b"snapshots\n");
     tell_snapshots();
 }

@@ -1,7 +1,6 @@
 // What the lines of the snapshots are made of, and how often each number is answered.
 use io::write_all;
-use libc::STDOUT_FILENO;
-use report::tell;
+use report::{STDOUT_FILENO, tell};
 
 // How often each number below 64 is answered.
 pub type Tally = [u32; 64];

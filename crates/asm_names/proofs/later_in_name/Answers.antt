@@ -1,6 +1,5 @@
 -- `asm_names::later_in_name` meets its contract. Invariant: the test of the bytes from place i on answers for all.
 use mathlib.Core.Path.{refl, sym, ◌∙◌}
-use borrow.Author.Tests.{not-true, not-false}
 use Rattle.language.specs.Text.{is_name_byte}
 use Rattle.language.proofs.Laws.{all_more, all-out, all-stop}
 use Rattle.asm_names.proofs.later_in_name.Goals as goal

@@ -1,6 +1,5 @@
 -- `asm_names::number_of` meets its contract. Invariant: the digits from place i on, after the number so far, make the whole.
 use mathlib.Core.Path.{sym, ◌∙◌}
-use borrow.Author.Tests.{not-true, not-false}
 use Rattle.asm_names.proofs.Numbers.{more-digit, more-out, more-start, more-stop, none-long}
 use borrow.Author.Rules.{rules}
 use Rattle.asm_names.proofs.number_of.Goals as goal

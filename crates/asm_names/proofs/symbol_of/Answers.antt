@@ -1,6 +1,6 @@
 -- `asm_names::symbol_of` meets its contract: each return rewrites with the tests that led there.
 use mathlib.Core.Path.{refl, sym, ◌∙◌}
-use borrow.Author.Tests.{eq-eqb, ne_eqb, not-true, not-false}
+use borrow.Author.Tests.{eq-eqb, ne_eqb}
 use Rattle.base.specs.Test.{◌and◌, if}
 use Rattle.language.specs.Text.{symbol_of}
 use Rattle.asm_names.proofs.symbol_of.Goals as goal

@@ -1,6 +1,5 @@
 -- `asm_text::all_printed` meets its contract. Invariant: all bytes from place i on are printed if all of the line are.
 use mathlib.Core.Path.{refl, sym, ◌∙◌}
-use borrow.Author.Tests.{not-true, not-false}
 use Rattle.language.specs.Text.{is_printed}
 use Rattle.language.proofs.Laws.{all_more, all-out, all-stop}
 use borrow.Author.Rules.{rules}

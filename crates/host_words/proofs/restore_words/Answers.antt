@@ -1,7 +1,6 @@
 -- `host_words::restore_words` meets its contract: the table's check, then the room for a state, then restore's.
-use Rattle.std.proofs.lemmas.Bool.{not_from_false, not_from_true}
+use Rattle.std.proofs.lemmas.Bool.{not_from_true}
 use mathlib.Core.Path.{sym, ◌∙◌}
-use borrow.Author.Tests.{not-true, not-false}
 use Rattle.admission.proofs.Admits.{table-passed}
 use Rattle.host_words.proofs.Freezes.{host-unwoken-table, host-unwoken-words, host-woken, host-unwoken}
 use Rattle.host_words.proofs.restore_words.Goals as goal

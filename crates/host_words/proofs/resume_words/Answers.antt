@@ -1,7 +1,6 @@
 -- src/lib.rt:156:9
-use Rattle.std.proofs.lemmas.Bool.{not_from_false, not_from_true}
+use Rattle.std.proofs.lemmas.Bool.{not_from_true}
 use mathlib.Core.Path.{sym, ◌∙◌}
-use borrow.Author.Tests.{not-true, not-false}
 use Rattle.host_words.proofs.Resumes.{host-unresumed, host-went-on, host-declined}
 use Rattle.lent.proofs.Links.{lawful-enough}
 use Rattle.host_words.proofs.resume_words.Goals as goal

@@ -1,7 +1,6 @@
 -- `host_words::write_words` meets its contract: the table's check, then the words', then the writer's.
-use Rattle.std.proofs.lemmas.Bool.{not_from_false, not_from_true}
+use Rattle.std.proofs.lemmas.Bool.{not_from_true}
 use mathlib.Core.Path.{sym, ◌∙◌}
-use borrow.Author.Tests.{not-true, not-false}
 use Rattle.admission.proofs.Admits.{table-passed}
 use Rattle.host_words.proofs.Freezes.{host-unwritten-table, host-unwritten-words, host-written}
 use Rattle.lent.proofs.Links.{lawful-enough}

@@ -1,7 +1,6 @@
 -- No row before row i has the letters.
 use native.Mathlib.Omega.{arith}
 use mathlib.Core.Path.{sym, ◌∙◌}
-use mathlib.Core.List.{[]}
 use Rattle.op_lookup.proofs.Letters.{has-letters, other-letters, first-at, first-nowhere, none_more}
 use Rattle.op_lookup.proofs.find_letters_in.Goals as goal
 

@@ -1,7 +1,6 @@
 -- `reals::reals_ok` meets its contract: the two tests in turn.
 use mathlib.Core.Path.{refl}
 use Rattle.base.specs.Test.{◌and◌}
-use borrow.Author.Tests.{not-false, not-true}
 use Rattle.reals.proofs.reals_ok.Goals as goal
 
 pub returns-then-not-finite_high : goal.returns-then-not-finite_high

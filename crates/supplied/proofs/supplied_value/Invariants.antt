@@ -1,6 +1,6 @@
 use Prim.Native.Nat.{◌≤◌, ◌-◌}
 use mathlib.Core.Path.{◌≡◌}
-use mathlib.Core.List.{[], map}
+use mathlib.Core.List.{map}
 use lib.ListN.{drop}
 use Rattle.ops.specs.Lookup.{first_with, by_cell}
 use Rattle.supplied.specs.Supplied.{supplies, supply_cells, value_at, supplied_of}

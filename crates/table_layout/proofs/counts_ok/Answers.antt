@@ -3,7 +3,6 @@ use Rattle.table_layout.proofs.Sizes.{count_ok, counts-below, count-is}
 use Rattle.table_layout.proofs.Belows.{below-zero, below_more, below_fails}
 use borrow.Author.Tests.{le-leb, lt-leb}
 use native.Mathlib.Omega.{arith}
-use mathlib.Core.Bool.{true, false}
 use mathlib.Core.Path.{◌≡◌, sym, ◌∙◌}
 use Rattle.table_layout.proofs.counts_ok.Goals as goal
 

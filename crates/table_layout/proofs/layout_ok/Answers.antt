@@ -1,8 +1,8 @@
 -- `table_layout::layout_ok` meets its contract: each part is what its function answers.
 -- `table_layout::layout_ok` meets its contract: each part is what its function answers.
-use borrow.Author.Tests.{eq-eqb, ne_eqb, not-true, not-false}
+use borrow.Author.Tests.{eq-eqb, ne_eqb}
 use Rattle.table_layout.proofs.Sizes.{short-fails, limited, laid}
-use Rattle.rules.specs.Table.{table_length, constants, fresh_count, externals}
+use Rattle.rules.specs.Table.{constants, fresh_count, externals}
 use Rattle.rules.specs.Check.{layout_ok}
 use Rattle.base.specs.Test.{◌and◌}
 use borrow.Author.Tests.{eq-eqb, ne_eqb}

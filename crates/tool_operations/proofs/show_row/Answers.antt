@@ -3,5 +3,5 @@ use Rattle.ops.proofs.Rows.{rows-count}
 use Rattle.tool_operations.proofs.show_row.Goals as goal
 
 pub show_at-requires : goal.show_at-requires
-show_at-requires c =
+show_at-requires g c =
     rw (← rows-count) ((c.find_letters-found.ensures.row c.in-Row.i).0 c.in-Row.is).0

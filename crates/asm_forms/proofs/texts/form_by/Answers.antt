@@ -1,6 +1,5 @@
 -- `asm_forms::texts::form_by` meets its contract: the forms of other cards, none, or a real number.
 use mathlib.Core.Path.{ap, sym, ◌∙◌}
-use borrow.Author.Tests.{not-false, not-true}
 use Rattle.asm_types.specs.Views.{cut_form}
 use Rattle.asm_reals.specs.Views.{decimal_view}
 use Rattle.asm_forms.proofs.Divided.{no-real, of_others, of-real}

@@ -1,6 +1,5 @@
 -- `asm_operations::names::are_letters` meets its contract: each return rewrites with the tests that led there.
 use Rattle.base.specs.Test.{◌and◌}
-use borrow.Author.Tests.{not-true, not-false}
 use Rattle.asm_operations.proofs.names.are_letters.Goals as goal
 
 pub returns-then-not-is_letter : goal.returns-then-not-is_letter

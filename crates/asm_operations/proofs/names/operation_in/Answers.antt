@@ -2,7 +2,7 @@
 use Rattle.asm_operations.proofs.Letters.{letters-at}
 use Rattle.language.specs.Operation.{operation_in}
 use Rattle.base.specs.Test.{◌and◌, if}
-use borrow.Author.Tests.{eq-eqb, ne_eqb, not-true, not-false}
+use borrow.Author.Tests.{eq-eqb, ne_eqb}
 use native.Mathlib.Omega.{arith}
 use Rattle.asm_operations.proofs.names.operation_in.Goals as goal
 

@@ -1,5 +1,5 @@
 -- `asm_symbols::fields::next_named`: no symbol before i has the name.
-use Prim.Native.Nat.{ℕ, ◌+◌, ◌*◌, ◌-◌, ◌<◌}
+use Prim.Native.Nat.{ℕ, ◌+◌, ◌*◌, ◌<◌}
 use mathlib.Core.Path.{◌∙◌, ◌≡◌, refl, sym, ap}
 use native.Mathlib.Omega.{arith}
 use mathlib.Core.List.{List}

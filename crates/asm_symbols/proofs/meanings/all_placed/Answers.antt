@@ -1,6 +1,5 @@
 -- `asm_symbols::meanings::all_placed_lem`: no symbol before i has a name that lacks its place.
 use mathlib.Core.Path.{◌∙◌, ◌≡◌, sym}
-use mathlib.Core.Bool.{false}
 use mathlib.Core.Logic.{⊎_elim}
 use native.Mathlib.Omega.{arith}
 use Rattle.base.proofs.Bool.{and_r, test-true, true-ok}

@@ -1,8 +1,7 @@
 -- `asm_symbols::meanings::declares_lacking`: the name of a declaration is asked for.
 use mathlib.Core.Path.{◌∙◌, ap, refl, sym}
-use borrow.Author.Tests.{not-false, not-true}
 use Rattle.base.specs.Test.{◌and◌}
-use Rattle.language.specs.Symbol.{is_lacking, meaning}
+use Rattle.language.specs.Symbol.{is_lacking}
 use Rattle.asm_symbols.specs.Walk.{declares}
 use Rattle.asm_symbols.proofs.meanings.declares_lacking.Goals as goal
 

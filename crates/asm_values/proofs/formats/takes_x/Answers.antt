@@ -1,6 +1,5 @@
 -- `asm_values::formats::takes_x`: each return rewrites with the tests that led there.
 use mathlib.Core.Path.{◌∙◌, refl, sym}
-use borrow.Author.Tests.{not-false, not-true}
 use Rattle.base.specs.Test.{◌and◌}
 use Rattle.asm_values.proofs.formats.takes_x.Goals as goal
 

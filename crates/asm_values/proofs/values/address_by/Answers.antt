@@ -1,7 +1,6 @@
 -- `asm_values::values::address_by`: each arm is the clause of its meaning.
 use mathlib.Core.Path.{◌∙◌, refl, subst}
 use native.Mathlib.Omega.{arith}
-use Rattle.language.specs.Operand.{gives}
 use Rattle.asm_symbols.specs.Symbolic.{Fits}
 use Rattle.asm_values.proofs.values.address_by.Goals as goal
 

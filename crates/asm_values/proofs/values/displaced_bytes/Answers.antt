@@ -2,7 +2,7 @@
 use mathlib.Core.Path.{◌∙◌, refl, sym}
 use borrow.Author.Tests.{le-leb, lt-leb}
 use Rattle.base.specs.Test.{if}
-use Rattle.language.specs.Operand.{displaced, gives}
+use Rattle.language.specs.Operand.{displaced}
 use Rattle.asm_values.proofs.values.displaced_bytes.Goals as goal
 
 pub returns-then-v-gt-CFP_M : goal.returns-then-v-gt-CFP_M

@@ -3,7 +3,6 @@ use mathlib.Core.Path.{◌∙◌, refl, sym}
 use native.Mathlib.Omega.{arith}
 use borrow.Author.Tests.{eq-eqb, ne_eqb}
 use Rattle.base.specs.Test.{if}
-use Rattle.language.specs.Operand.{gives}
 use Rattle.asm_symbols.proofs.Sorts.{is-sort}
 use Rattle.asm_values.proofs.values.entry_value.Goals as goal
 

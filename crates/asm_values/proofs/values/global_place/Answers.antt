@@ -1,7 +1,6 @@
 -- `asm_values::values::global_place`: each return rewrites with the tests that led there.
 use mathlib.Core.Path.{◌∙◌, refl, sym}
 use Rattle.base.specs.Test.{if}
-use Rattle.language.specs.Operand.{gives}
 use Rattle.asm_values.proofs.values.global_place.Goals as goal
 
 pub returns-then-p : goal.returns-then-p

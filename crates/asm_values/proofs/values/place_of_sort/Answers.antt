@@ -2,7 +2,6 @@
 use mathlib.Core.Path.{◌∙◌, refl, sym}
 use borrow.Author.Tests.{eq-eqb, ne_eqb}
 use Rattle.base.specs.Test.{if}
-use Rattle.language.specs.Operand.{gives}
 use Rattle.asm_symbols.proofs.Sorts.{is-sort}
 use Rattle.asm_values.proofs.values.place_of_sort.Goals as goal
 

@@ -2,7 +2,7 @@
 use mathlib.Core.Path.{◌∙◌, refl, sym}
 use borrow.Author.Tests.{le-leb, lt-leb}
 use Rattle.base.specs.Test.{if}
-use Rattle.language.specs.Operand.{gives, value_within}
+use Rattle.language.specs.Operand.{value_within}
 use Rattle.asm_values.proofs.values.value_within.Goals as goal
 
 pub returns-then-limit-v : goal.returns-then-limit-v

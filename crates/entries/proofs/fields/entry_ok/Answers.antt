@@ -1,7 +1,6 @@
 -- `entries::fields::entry_ok` meets its contract: each return rewrites with the tests that led there.
 use Rattle.entries.specs.Coded.{entry_by}
 use Rattle.base.specs.Test.{◌and◌}
-use borrow.Author.Tests.{not-true, not-false}
 use mathlib.Core.Path.{refl}
 use Rattle.entries.proofs.fields.entry_ok.Goals as goal
 

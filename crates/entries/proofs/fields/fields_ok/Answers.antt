@@ -7,11 +7,9 @@ use Rattle.rules.specs.Table.{class_at}
 use Rattle.ops.proofs.Rows.{table-row}
 use Rattle.ops.specs.Class.{class_code}
 use Rattle.base.proofs.Bool.{failed, true-ok}
-use borrow.Author.Tests.{not-true, not-false}
 use lib.ListN.{get_or, length-set}
 use native.Mathlib.Omega.{arith}
 use mathlib.Core.List.{[]}
-use mathlib.Core.Bool.{true, false}
 use mathlib.Core.Path.{◌≡◌, refl, sym, ◌∙◌}
 use Prim.Native.Nat.{ℕ, ◌<◌}
 use Rattle.entries.proofs.fields.fields_ok.Goals as goal

@@ -3,7 +3,6 @@ use Rattle.table_layout.specs.Below.{below}
 use Rattle.rules.specs.Table.{class_at}
 use Rattle.ops.specs.Class.{class_code}
 use lib.ListN.{length, get_or}
-use mathlib.Core.List.{[]}
 use mathlib.Core.Bool.{true}
 use mathlib.Core.Path.{◌≡◌}
 use Prim.Native.Nat.{ℕ, ◌-◌, ◌<◌, ◌≤◌}

@@ -1,7 +1,6 @@
 -- `entries::fields::is_apart` meets its contract: each return rewrites with the tests that led there.
 use Rattle.table_layout.proofs.Belows.{and-false, and-true}
 use Rattle.rules.specs.Check.{apart}
-use mathlib.Core.Bool.{true, false}
 use Rattle.base.specs.Test.{◌and◌, ◌or◌}
 use borrow.Author.Tests.{eq-eqb, ne_eqb}
 use mathlib.Core.Path.{refl}

@@ -1,7 +1,6 @@
 -- `entries::fields::operand_ok` meets its contract: each return rewrites with the tests that led there.
 use Rattle.entries.specs.Coded.{operand_by}
 use Rattle.base.specs.Test.{◌and◌}
-use borrow.Author.Tests.{not-true, not-false}
 use mathlib.Core.Path.{refl}
 use Rattle.entries.proofs.fields.operand_ok.Goals as goal
 

@@ -2,7 +2,6 @@
 use Rattle.entries.specs.Coded.{fields_by}
 use Rattle.rules.specs.Table.{field}
 use Rattle.base.specs.Test.{◌and◌}
-use borrow.Author.Tests.{not-true, not-false}
 use mathlib.Core.Path.{refl}
 use Rattle.entries.proofs.fields.operands_ok.Goals as goal
 

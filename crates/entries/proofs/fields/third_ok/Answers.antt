@@ -2,7 +2,7 @@
 use Rattle.entries.specs.Coded.{third_by}
 use Rattle.rules.specs.Table.{size}
 use Rattle.base.specs.Test.{◌and◌, if}
-use borrow.Author.Tests.{eq-eqb, ne_eqb, not-true, not-false}
+use borrow.Author.Tests.{eq-eqb, ne_eqb}
 use mathlib.Core.Path.{refl}
 use Rattle.entries.proofs.fields.third_ok.Goals as goal
 

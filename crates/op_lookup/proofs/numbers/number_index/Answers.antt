@@ -1,7 +1,6 @@
 -- The index of the rows before row k.
 use native.Mathlib.Omega.{arith}
 use mathlib.Core.Path.{◌≡◌}
-use mathlib.Core.List.{[]}
 use Rattle.op_lookup.proofs.Index.{index-begun, index-more, index-whole, number-below, number-here}
 use Rattle.op_lookup.proofs.numbers.number_index.Goals as goal
 

@@ -1,5 +1,4 @@
 use Prim.Native.Nat.{◌≤◌, ◌-◌}
-use mathlib.Core.List.{[]}
 use Rattle.op_lookup.proofs.Index.{IndexTo}
 use Rattle.op_lookup.proofs.numbers.number_index.Given as goal
 

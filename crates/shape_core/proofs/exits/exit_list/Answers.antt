@@ -1,10 +1,8 @@
 -- `shape_core::exits::exit_list` meets its contract: each return rewrites with the tests that led there.
 use Rattle.shape_core.proofs.Tests.{and_no, and_yes}
 use Rattle.shape_core.proofs.Lists.{exits-start, exits-next, exits-done}
-use Rattle.rules.specs.Check.{exit_list, is_exit}
-use borrow.Author.Tests.{not-true, not-false}
+use Rattle.rules.specs.Check.{exit_list}
 use native.Mathlib.Omega.{arith}
-use mathlib.Core.Bool.{true, false}
 use mathlib.Core.Path.{sym, ◌∙◌}
 use Rattle.shape_core.proofs.exits.exit_list.Goals as goal
 

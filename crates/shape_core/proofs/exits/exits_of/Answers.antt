@@ -2,7 +2,6 @@
 use Rattle.shape_core.specs.declared.exits.Exits.TheVariants as exits
 use Rattle.shape_core.proofs.Lists.{prc-inside, exits-procedure, exits-no-procedure, exits-no-kind, exits-far, exits-external}
 use native.Mathlib.Omega.{arith}
-use mathlib.Core.Bool.{true, false}
 use mathlib.Core.Path.{sym, ap, ◌∙◌}
 use Rattle.shape_core.proofs.exits.exits_of.Goals as goal
 

@@ -2,7 +2,6 @@
 use Rattle.shape_core.proofs.Tests.{or_no, or_yes}
 use Rattle.shape_core.proofs.Lists.{exit-code}
 use borrow.Author.Tests.{eq-eqb, ne_eqb}
-use mathlib.Core.Bool.{true, false}
 use mathlib.Core.Path.{sym, ◌∙◌}
 use Rattle.shape_core.proofs.exits.is_exit.Goals as goal
 

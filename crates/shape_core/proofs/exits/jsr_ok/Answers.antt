@@ -1,7 +1,5 @@
 -- `shape_core::exits::jsr_ok` meets its contract: each return rewrites with the tests that led there.
 use Rattle.shape_core.proofs.Lists.{jsr-unnamed, jsr-unlisted, jsr-listed}
-use borrow.Author.Tests.{not-true, not-false}
-use mathlib.Core.Bool.{true, false}
 use mathlib.Core.Path.{sym, ◌∙◌}
 use Rattle.shape_core.proofs.exits.jsr_ok.Goals as goal
 

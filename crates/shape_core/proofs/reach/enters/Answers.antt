@@ -5,7 +5,6 @@ use Rattle.rules.specs.Table.{size}
 use Rattle.base.specs.Test.{◌and◌}
 use borrow.Author.Tests.{lt-ltb, le-ltb}
 use native.Mathlib.Omega.{arith}
-use mathlib.Core.Bool.{true, false}
 use mathlib.Core.Path.{refl}
 use Rattle.shape_core.proofs.reach.enters.Goals as goal
 

@@ -1,6 +1,5 @@
 -- `shape_core::reach::global_target` meets its contract: each return rewrites with the tests that led there.
 use Rattle.shape_core.proofs.Codes.{global-none, global-some}
-use mathlib.Core.Bool.{true, false}
 use mathlib.Core.Path.{◌∙◌}
 use Rattle.shape_core.proofs.reach.global_target.Goals as goal
 

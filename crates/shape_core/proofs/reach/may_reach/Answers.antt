@@ -1,6 +1,5 @@
 -- `shape_core::reach::may_reach` meets its contract: each return rewrites with the tests that led there.
 use Rattle.shape_core.proofs.Codes.{may_none, may-some}
-use mathlib.Core.Bool.{true, false}
 use mathlib.Core.Path.{◌∙◌}
 use Rattle.shape_core.proofs.reach.may_reach.Goals as goal
 

@@ -1,6 +1,5 @@
 -- `shape_core::reach::must_reach` meets its contract: each return rewrites with the tests that led there.
 use Rattle.shape_core.proofs.Codes.{must-none, must-some}
-use mathlib.Core.Bool.{true, false}
 use mathlib.Core.Path.{◌∙◌}
 use Rattle.shape_core.proofs.reach.must_reach.Goals as goal
 

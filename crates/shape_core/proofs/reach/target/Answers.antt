@@ -3,7 +3,6 @@ use Rattle.shape_core.specs.Known.{target_of}
 use native.Mathlib.Numerals.{add-one}
 use Rattle.base.specs.Test.{if}
 use borrow.Author.Tests.{eq-eqb, ne_eqb}
-use mathlib.Core.Bool.{true, false}
 use mathlib.Core.Path.{refl}
 use Rattle.shape_core.proofs.reach.target.Goals as goal
 

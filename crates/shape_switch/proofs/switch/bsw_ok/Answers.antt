@@ -2,7 +2,6 @@
 use Rattle.shape_core.specs.Counted.{list_ok}
 use Rattle.shape_core.proofs.Tests.{and_no, and_yes}
 use Rattle.table_layout.proofs.Belows.{and-true}
-use borrow.Author.Tests.{not-true, not-false}
 use mathlib.Core.Path.{sym, ◌∙◌}
 use Rattle.shape_switch.proofs.switch.bsw_ok.Goals as goal
 

@@ -1,5 +1,5 @@
 -- `shape_values::marks::by_marks` meets its contract: the last `left` of the IFFs are passed, and their remainders are marked.
-use Rattle.std.proofs.Common.{◌+◌, ◌-◌, true, sym, refl, ◌∙◌, arith}
+use Rattle.std.proofs.Common.{◌+◌, ◌-◌, sym, refl, ◌∙◌, arith}
 use Rattle.shape_core.specs.Counted.{fresh_at}
 use Rattle.shape_values.proofs.Values.{marked_start, marked-at, marked-back, distinct-start, distinct-front, distinct-back, distinct-end, claimed}
 use Rattle.shape_values.proofs.marks.by_marks.Goals as goal

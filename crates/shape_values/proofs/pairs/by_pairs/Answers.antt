@@ -1,6 +1,5 @@
 -- `shape_values::pairs::by_pairs` meets its contract: the last `left` of the IFFs are passed.
-use Rattle.std.proofs.Common.{true, sym, ◌∙◌, arith}
-use borrow.Author.Tests.{not-true, not-false}
+use Rattle.std.proofs.Common.{sym, ◌∙◌, arith}
 use Rattle.shape_values.proofs.Values.{distinct-start, distinct-front, distinct-back, distinct-end}
 use Rattle.shape_values.proofs.pairs.by_pairs.Goals as goal
 

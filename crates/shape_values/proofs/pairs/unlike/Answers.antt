@@ -2,7 +2,6 @@
 use Rattle.shape_core.proofs.Tests.{and_no, and_yes}
 use Rattle.shape_values.proofs.Values.{unlike-start, unlike-next, unlike-done}
 use Rattle.std.proofs.Common.{sym, ◌∙◌, arith}
-use borrow.Author.Tests.{not-true, not-false}
 use Rattle.shape_values.proofs.pairs.unlike.Goals as goal
 
 pub loop-i-init : goal.loop-i-init

@@ -6,7 +6,6 @@ use Rattle.shape_core.proofs.Codes.{is_code}
 use Rattle.rules.specs.Table.{class_at}
 use Rattle.ops.specs.Class.{executes, JSR}
 use borrow.Author.Tests.{eq-eqb, ne_eqb}
-use mathlib.Core.Bool.{true, false}
 use mathlib.Core.Path.{sym, ◌∙◌}
 use Rattle.shapes.proofs.cards.below_exit.Goals as goal
 

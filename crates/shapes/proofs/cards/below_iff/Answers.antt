@@ -2,7 +2,6 @@
 use Rattle.shape_core.proofs.Tests.{or_no, or_yes}
 use Rattle.shapes.proofs.Rules.{iff-top, iff-under}
 use borrow.Author.Tests.{eq-eqb, ne_eqb}
-use mathlib.Core.Bool.{true, false}
 use mathlib.Core.Path.{sym, ◌∙◌}
 use Rattle.shapes.proofs.cards.below_iff.Goals as goal
 

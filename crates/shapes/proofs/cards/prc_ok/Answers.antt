@@ -5,10 +5,8 @@ use Rattle.shape_core.proofs.Tests.{and_no, and_yes}
 use Rattle.shape_core.proofs.Codes.{executable-code}
 use Rattle.table_layout.proofs.Belows.{and-true}
 use native.Mathlib.Numerals.{add-one}
-use Rattle.base.specs.Test.{◌and◌}
-use borrow.Author.Tests.{lt-ltb, le-ltb, not-true, not-false}
+use borrow.Author.Tests.{lt-ltb, le-ltb}
 use native.Mathlib.Omega.{arith}
-use mathlib.Core.Bool.{true, false}
 use mathlib.Core.Path.{sym, ◌∙◌}
 use Rattle.shapes.proofs.cards.prc_ok.Goals as goal
 

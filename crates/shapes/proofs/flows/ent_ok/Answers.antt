@@ -2,9 +2,6 @@
 use Rattle.shape_core.proofs.Tests.{and_no, and_yes}
 use Rattle.shapes.proofs.Rules.{goes-is}
 use Rattle.table_layout.proofs.Belows.{and-true}
-use Rattle.base.specs.Test.{◌and◌}
-use borrow.Author.Tests.{not-true, not-false}
-use mathlib.Core.Bool.{true, false}
 use mathlib.Core.Path.{sym, ◌∙◌}
 use Rattle.shapes.proofs.flows.ent_ok.Goals as goal
 

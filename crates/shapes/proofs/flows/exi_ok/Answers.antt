@@ -3,7 +3,6 @@ use Rattle.shape_core.proofs.Tests.{and_no, and_yes, or_no, or_yes}
 use Rattle.shapes.proofs.Rules.{body_below, exi-outside, exi-inside}
 use borrow.Author.Tests.{eq-eqb, ne_eqb, le-leb, lt-leb}
 use native.Mathlib.Omega.{arith}
-use mathlib.Core.Bool.{true, false}
 use mathlib.Core.Path.{refl, sym, ◌∙◌}
 use Rattle.shapes.proofs.flows.exi_ok.Goals as goal
 

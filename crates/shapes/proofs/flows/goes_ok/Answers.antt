@@ -1,7 +1,6 @@
 -- `shapes::flows::goes_ok` meets its contract: each return rewrites with the tests that led there.
 use Rattle.shapes.proofs.Rules.{goes-is}
 use Rattle.table_layout.proofs.Belows.{and-true}
-use Rattle.base.specs.Test.{◌and◌}
 use mathlib.Core.Path.{sym, ◌∙◌}
 use Rattle.shapes.proofs.flows.goes_ok.Goals as goal
 

@@ -1,6 +1,5 @@
 -- `snap_core::fresh::write_memory` meets its contract. The loop's invariant: the file begins with memory, its first i fresh words as 0.
 use mathlib.Core.Path.{refl, ◌∙◌}
-use mathlib.Core.List.{[]}
 use native.Mathlib.Omega.{arith}
 use Rattle.rules.proofs.Memory.{fresh_index-inside}
 use Rattle.rules.specs.Start.{supplied}

@@ -1,7 +1,7 @@
 -- `snap_core::trailer_ok` meets its contract.
 use mathlib.Core.Path.{◌≡◌, sym, ◌∙◌}
 use mathlib.Core.Bool.{true}
-use borrow.Author.Tests.{lt-leb, not-false, not-true}
+use borrow.Author.Tests.{lt-leb}
 use Rattle.rules.specs.Snapshot.{memory_in, trailer_ok}
 use Rattle.snap_core.proofs.Trailers.{and_no, and_yes, length_true, trailer-inside, trailer-parts}
 use Rattle.snap_core.proofs.trailer.trailer_ok.Goals as goal
