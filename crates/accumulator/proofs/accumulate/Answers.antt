@@ -1,4 +1,3 @@
--- src/lib.rt:41:22
 use mathlib.Core.Path.{◌∙◌, ap}
 use lib.IntN.{ℤ}
 use mir.Facts.{to_z-of_z}

@@ -1,4 +1,3 @@
--- src/lib.rt:34:8
 use mathlib.Core.Path.{◌∙◌, ap}
 use mir.Facts.{to_z-of_z}
 use mir.Syntax.{w64}

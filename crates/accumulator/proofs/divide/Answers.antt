@@ -1,4 +1,3 @@
--- src/lib.rt:38:9
 use native.Mathlib.Omega.{arith}
 use borrow.Author.Tests.{eq-eqb, ne_eqb}
 use Rattle.base.specs.Test.{if}

@@ -1,4 +1,3 @@
--- src/lib.rt:204:1
 use borrow.Author.Tests.{le-leb, lt-leb}
 use Rattle.base.specs.Test.{if}
 use Rattle.accumulator.proofs.in_range_or.Goals as goal

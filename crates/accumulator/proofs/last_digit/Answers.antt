@@ -1,4 +1,3 @@
--- src/lib.rt:284:24
 use Prim.Native.Nat.{ℕ, ◌+◌}
 use mathlib.Core.Path.{ap}
 use native.Mathlib.Omega.{arith}

@@ -1,4 +1,3 @@
--- src/lib.rt:248:8
 use borrow.Author.Tests.{lt-ltb, le-ltb}
 use Rattle.base.specs.Test.{◌or◌}
 use Rattle.accumulator.proofs.no_digit.Goals as goal

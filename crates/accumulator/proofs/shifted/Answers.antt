@@ -1,4 +1,3 @@
--- src/lib.rt:262:5
 use Prim.Native.Nat.{◌-◌}
 use Rattle.ops.specs.Machine.{ch_d0}
 use Rattle.accumulator.proofs.Laws.{less-room, shifted_fits, shifted-value}

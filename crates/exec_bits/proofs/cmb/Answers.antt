@@ -1,4 +1,3 @@
--- src/lib.rt:110:25
 use mathlib.Core.Path.{◌∙◌}
 use Rattle.rules.specs.Operand.{given}
 use Rattle.rules.specs.Exec.{changes}

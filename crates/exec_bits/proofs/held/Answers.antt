@@ -1,4 +1,3 @@
--- src/lib.rt:36:9
 use Rattle.rules.specs.Operand as Rules
 use native.Mathlib.Omega.{arith}
 use mathlib.Core.Path.{ap}

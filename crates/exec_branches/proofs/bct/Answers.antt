@@ -1,4 +1,3 @@
--- src/lib.rt:229:26
 use Rattle.rules.specs.Operand as Rules
 use native.Mathlib.Omega.{arith}
 use mathlib.Core.Path.{ap}

@@ -1,4 +1,3 @@
--- src/lib.rt:181:9
 use Rattle.exec_core.specs.Views.{way_of}
 use Rattle.rules.specs.Exec.{fork}
 use lib.Dec.{ltb}

@@ -1,4 +1,3 @@
--- src/lib.rt:121:9
 use mathlib.Core.Bool.{not}
 use Rattle.exec_core.specs.Views.{way_of}
 use Rattle.rules.specs.Exec.{fork}

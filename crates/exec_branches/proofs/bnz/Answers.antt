@@ -1,4 +1,3 @@
--- src/lib.rt:205:9
 use mathlib.Core.Bool.{not}
 use Rattle.exec_core.specs.Views.{way_of}
 use Rattle.exec_core.proofs.Laws.{place-kind}

@@ -1,4 +1,3 @@
--- src/lib.rt:265:20
 use Rattle.exec_core.proofs.Laws.{place-kind}
 use Rattle.exec_branches.proofs.ige.Goals as goal
 

@@ -1,4 +1,3 @@
--- src/lib.rt:273:36
 use Rattle.exec_core.proofs.Laws.{place-kind}
 use Rattle.exec_branches.proofs.igt.Goals as goal
 

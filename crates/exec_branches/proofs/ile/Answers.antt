@@ -1,4 +1,3 @@
--- src/lib.rt:281:37
 use Rattle.exec_core.proofs.Laws.{place-kind}
 use Rattle.exec_branches.proofs.ile.Goals as goal
 

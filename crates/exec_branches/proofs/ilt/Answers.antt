@@ -1,4 +1,3 @@
--- src/lib.rt:289:28
 use Rattle.exec_core.proofs.Laws.{place-kind}
 use Rattle.exec_branches.proofs.ilt.Goals as goal
 

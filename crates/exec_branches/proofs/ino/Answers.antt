@@ -1,4 +1,3 @@
--- src/lib.rt:241:20
 use Rattle.exec_core.proofs.Laws.{place-kind}
 use Rattle.exec_branches.proofs.ino.Goals as goal
 

@@ -1,4 +1,3 @@
--- src/lib.rt:72:26
 use Rattle.rules.specs.Operand.{given}
 use Rattle.rules.specs.Exec.{tells}
 use Rattle.exec_branches.proofs.taken.Goals as goal

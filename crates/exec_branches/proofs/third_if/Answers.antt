@@ -1,4 +1,3 @@
--- src/lib.rt:62:9
 use mathlib.Core.Path.{◌∙◌}
 use Rattle.base.specs.Test.{if}
 use Rattle.exec_core.specs.Views.{way_of}

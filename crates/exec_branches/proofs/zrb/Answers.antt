@@ -1,4 +1,3 @@
--- src/lib.rt:341:9
 use Rattle.exec_core.specs.Views.{way_of}
 use Rattle.exec_core.proofs.Laws.{place-kind}
 use Rattle.rules.specs.Exec.{fork}

@@ -1,4 +1,3 @@
--- src/lib.rt:216:22
 use mathlib.Core.Path.{sym}
 use native.Mathlib.Omega.{arith}
 use Rattle.exec_calls.proofs.Places.{header}

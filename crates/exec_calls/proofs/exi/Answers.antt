@@ -1,4 +1,3 @@
--- src/lib.rt:248:16
 use Rattle.exec_calls.proofs.Called.{leaving, exi-keeps, exi-drops}
 use Prim.Native.Nat.{ℕ, ◌+◌}
 use Rattle.base.specs.Lists.{◌at◌}

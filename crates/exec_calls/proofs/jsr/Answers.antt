@@ -1,4 +1,3 @@
--- src/lib.rt:198:10
 use native.Mathlib.Omega.{arith}
 use Rattle.exec_calls.proofs.Called.{jsr-waits, jsr-full, jsr-few, jsr-opens}
 use Rattle.exec_calls.proofs.jsr.Goals as goal

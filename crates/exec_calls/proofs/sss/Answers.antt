@@ -1,4 +1,3 @@
--- src/lib.rt:262:26
 use lib.ListN.{length-set}
 use mathlib.Core.Path.{refl}
 use Rattle.base.specs.Test.{if}

@@ -1,4 +1,3 @@
--- src/lib.rt:230:43
 use mathlib.Core.Path.{◌∙◌}
 use native.Mathlib.Omega.{arith}
 use Rattle.exec_calls.proofs.Called.{takes-past, takes-label, takes-impossible, takes-errors, exit-inside}

@@ -1,4 +1,3 @@
--- src/lib.rt:49:14
 use mathlib.Core.Path.{refl}
 use Rattle.rules.specs.Table.{section6}
 use Rattle.exec_calls.proofs.to_errors.Goals as goal

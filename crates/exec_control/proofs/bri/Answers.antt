@@ -1,4 +1,4 @@
--- src/lib.rt:161:26
+use Rattle.exec_core.specs.Seen.{state_by}
 use native.Mathlib.Omega.{arith}
 use Rattle.rules.specs.Operand.{given}
 use Rattle.rules.specs.Exec.{tells}
@@ -30,4 +30,4 @@ overflow_add-result c = omega (arith, (entry-few _ c.requires.0.checked _ _ c.en
 
 pub returns : goal.returns
 unfolding tells given
-returns c = λ k ls. rw (← c.operand-one.ensures, ← c.fetch-f.ensures, c.in-Got.is, ← c.act.ensures, ← c.entry_of-e.ensures) (bri-goes _ _ _ _ ls c.args.b c.entry_of-e.result c.if-e-eq0.false)
+returns c = λ k ls. rw (← c.operand-one.ensures, ← c.fetch-f.ensures, c.in-Got.is, ← c.act.ensures, ← c.entry_of-e.ensures) (bri-goes _ (state_by c.args.b c.args.z.now c.args.m.now ls) _ _ ls c.args.b c.entry_of-e.result c.if-e-eq0.false)

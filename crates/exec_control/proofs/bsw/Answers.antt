@@ -1,4 +1,3 @@
--- src/lib.rt:179:23
 use native.Mathlib.Omega.{arith}
 use Rattle.ops.specs.Class.{BSW}
 use Rattle.base.proofs.Bool.{passed}

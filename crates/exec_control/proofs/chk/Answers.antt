@@ -1,4 +1,3 @@
--- src/lib.rt:110:14
 use Rattle.exec_control.proofs.Jumps.{checks-below, checks-on}
 use Rattle.exec_control.proofs.chk.Goals as goal
 

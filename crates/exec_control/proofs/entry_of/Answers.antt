@@ -1,4 +1,3 @@
--- src/lib.rt:122:9
 use mathlib.Core.Path.{refl}
 use native.Mathlib.Omega.{arith}
 use Rattle.rules.specs.Table.{size}

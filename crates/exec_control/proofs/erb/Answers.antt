@@ -1,4 +1,3 @@
--- src/lib.rt:101:24
 use mathlib.Core.Path.{refl}
 use Rattle.exec_calls.proofs.Places.{value-at}
 use Rattle.exec_control.proofs.erb.Goals as goal

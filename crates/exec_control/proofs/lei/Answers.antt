@@ -1,4 +1,3 @@
--- src/lib.rt:143:21
 use native.Mathlib.Omega.{arith}
 use Rattle.exec_core.specs.Entry.{readable, in_register, going}
 use Rattle.exec_control.proofs.Jumps.{entry-bare, register-small}

@@ -1,4 +1,3 @@
--- src/lib.rt:93:5
 use Prim.Native.Nat.{ℕ}
 use mathlib.Core.Path.{ap}
 use Rattle.exec_core.specs.Seen.{seen}

@@ -1,4 +1,3 @@
--- src/lib.rt:216:16
 use mathlib.Core.Path.{◌∙◌}
 use borrow.Author.Tests.{le-leb, lt-leb, ne_eqb}
 use Rattle.base.specs.Test.{if}

@@ -1,4 +1,3 @@
--- src/lib.rt:229:13
 use mathlib.Core.Path.{sym, ap, ◌∙◌}
 use mir.Facts.{to_z-of_z}
 use mir.Syntax.{w64}

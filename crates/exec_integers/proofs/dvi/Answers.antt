@@ -1,4 +1,3 @@
--- src/lib.rt:117:9
 use mathlib.Core.Path.{◌∙◌}
 use lib.Signed.{quot_z}
 use mir.Facts.{to_z-of_z}

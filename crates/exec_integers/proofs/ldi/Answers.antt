@@ -1,4 +1,3 @@
--- src/lib.rt:60:9
 use mathlib.Core.Path.{refl}
 use Rattle.exec_integers.proofs.Laws.{steady-still, load-missing, load-got}
 use Rattle.exec_integers.proofs.ldi.Goals as goal

@@ -1,4 +1,3 @@
--- src/lib.rt:25:28
 use mathlib.Core.Path.{◌∙◌}
 use Rattle.exec_core.proofs.Laws.{reads}
 use Rattle.exec_integers.proofs.load.Goals as goal

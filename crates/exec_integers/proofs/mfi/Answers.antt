@@ -1,4 +1,3 @@
--- src/lib.rt:190:26
 use mathlib.Core.Path.{sym, ◌∙◌}
 use native.Mathlib.Omega.{arith}
 use lib.Dec.{leb}

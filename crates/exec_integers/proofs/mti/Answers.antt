@@ -1,4 +1,3 @@
--- src/lib.rt:165:26
 use Rattle.rules.specs.Exec.{loads}
 use Rattle.rules.specs.Operand.{given}
 use Rattle.exec_integers.proofs.mti.Goals as goal

@@ -1,4 +1,3 @@
--- src/lib.rt:155:29
 use Prim.Native.Nat.{ℕ, ◌+◌}
 use mathlib.Core.List.{List}
 use mathlib.Core.Path.{ap}

@@ -1,4 +1,3 @@
--- src/lib.rt:131:9
 use mathlib.Core.Path.{◌∙◌}
 use lib.Signed.{rem_z}
 use mir.Facts.{to_z-of_z}

@@ -1,4 +1,3 @@
--- src/lib.rt:103:9
 use Rattle.accumulator.proofs.Laws.{accumulated-by}
 use Rattle.exec_integers.proofs.Laws.{steady-still, load-missing, load-got}
 use Rattle.exec_integers.proofs.sbi.Goals as goal

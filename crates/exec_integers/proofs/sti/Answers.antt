@@ -1,4 +1,3 @@
--- src/lib.rt:145:26
 use Prim.Native.Nat.{◌+◌}
 use mathlib.Core.Path.{refl, ◌∙◌}
 use native.Mathlib.Omega.{arith}

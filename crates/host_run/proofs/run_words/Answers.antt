@@ -1,4 +1,3 @@
--- src/lib.rt:129:9
 use Rattle.std.proofs.lemmas.Bool.{not_from_true}
 use mathlib.Core.Path.{sym, ◌∙◌}
 use Rattle.host_run.proofs.Runs.{host-unrun, host-ended, host-refused}

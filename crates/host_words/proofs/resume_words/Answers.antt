@@ -1,4 +1,3 @@
--- src/lib.rt:156:9
 use Rattle.std.proofs.lemmas.Bool.{not_from_true}
 use mathlib.Core.Path.{sym, ◌∙◌}
 use Rattle.host_words.proofs.Resumes.{host-unresumed, host-went-on, host-declined}

@@ -1,4 +1,3 @@
--- src/lib.rt:86:8
 use mathlib.Core.Path.{sym, ◌∙◌}
 use Rattle.base.specs.Test.{if}
 use Rattle.host_claims.specs.Running.{unread_number}

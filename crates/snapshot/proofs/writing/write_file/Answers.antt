@@ -9,23 +9,6 @@ use borrow.Author.Rules.{rules}
 use Rattle.snapshot.proofs.writing.write_file.Goals as goal
 
 -- the state's array has 256 links
-full-links : (c : lts.Start (
-  write-memory-reads.Asked,
-  write-memory-reads.Learnt,
-  index_Reads.Asked,
-  index_Reads.Learnt,
-  write-words-reads.Asked,
-  write-words-reads.Learnt,
-  fresh-base-reads.Asked,
-  fresh-base-reads.Learnt,
-  fresh-count-reads.Asked,
-  fresh-count-reads.Learnt,
-  trailer-words-reads.Asked,
-  trailer-words-reads.Learnt,
-) reads.Pre reads.Post)
-    → length c.args.state.links ≡ 256
-full-links c = search rules
-
 pub write_memory-requires : goal.write_memory-requires
 write_memory-requires c =
     let full : length c.args.state.links ≡ 256 = search rules in
