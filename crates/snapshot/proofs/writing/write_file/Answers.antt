@@ -8,7 +8,6 @@ use Rattle.snapshot.proofs.Writings.{measured, write-parts}
 use borrow.Author.Rules.{rules}
 use Rattle.snapshot.proofs.writing.write_file.Goals as goal
 
--- the state's array has 256 links
 pub write_memory-requires : goal.write_memory-requires
 write_memory-requires c =
     let full : length c.args.state.links ≡ 256 = search rules in
