@@ -55,7 +55,8 @@ member-first k n ns false h e = absurd (failed h)
 
 member-kept : (k : ℕ) (ns : List ℕ) (rs : List Row) → Ok (member k ns) → Ok (member k (arrivable ns rs))
 member-kept k ns [] h = h
-member-kept k ns (r ∷ rs) h = member-kept k _ rs (member-more k r.number ns (is_executable r.class) h)
+member-kept k ns (r ∷ rs) h =
+    member-kept k (cond (is_executable r.class) (placed r.number ns) ns) rs (member-more k r.number ns (is_executable r.class) h)
 
 listed_by : (k : ℕ) (ns : List ℕ) (r : Row) (rs : List Row) (b : Bool) → eqb k r.number ≡ b
     → (Ok (is_executable (class_in k rs)) → Ok (member k (arrivable ns (r ∷ rs))))
@@ -67,7 +68,7 @@ listed_by k ns r rs false e f a = f a
 
 listed : (k : ℕ) (ns : List ℕ) (rs : List Row) → Ok (is_executable (class_in k rs)) → Ok (member k (arrivable ns rs))
 listed k ns [] a = absurd (failed a)
-listed k ns (r ∷ rs) a = listed_by k ns r rs (eqb k r.number) refl (λ x. listed k _ rs x) a
+listed k ns (r ∷ rs) a = listed_by k ns r rs (eqb k r.number) refl (λ x. listed k (cond (is_executable r.class) (placed r.number ns) ns) rs x) a
 
 -- k is none of these numbers
 abbrev pub NoneOf : ℕ → List ℕ → Type 0
