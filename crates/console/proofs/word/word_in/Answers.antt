@@ -2,7 +2,6 @@
 use Prim.Native.Nat.{◌+◌}
 use mathlib.Core.Path.{sym, ◌∙◌}
 use borrow.Author.Rules.{rules}
-use borrow.Author.Tests.{not-true, not-false}
 use lib.ListN.{drop}
 use Rattle.console.proofs.Words.{more-digit, more-out, more-over, more-start, more-stop, none-long}
 use Rattle.console.proofs.word.word_in.Goals as goal
