@@ -1,7 +1,6 @@
 -- A word as it is written in an argument: decimal digits, of a number up to the largest word.
 -- Assumes nothing.
 use Rattle.std.specs.Prelude.{ℕ, List, leb}
-use Rattle.base.specs.Test.{if}
 use Rattle.language.specs.Text.{Parsed, number_of, parsed, parsed_if, unparsed}
 use Rattle.asm_types.specs.Views.{most_word}
 use Rattle.console.specs.declared.word.Word.{Word}
