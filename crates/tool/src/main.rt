@@ -1,6 +1,6 @@
 // The command of the product: cards to a table, a table's check, a run, a machine frozen and woken, on files; and the list of operations. What calls the machine stands here; what is said,
 // asked and read stands in the `tool_` libraries below.
-// A program has no exit status of its own: whatever it writes to standard error says that it failed, and the script `torzimlak` makes the
+// The program gives no exit status of its own: whatever it writes to standard error says that it failed, and the script `torzimlak` makes the
 // status of that.
 #![tactic(auto)]
 
