@@ -102,9 +102,10 @@ assumed=$(sed -n '/^## What is assumed/,/^Not proved/p' "$top/README.md")
 unnamed() {
     nm -D -u "$top/crates/tool/out/tool" | awk '{ sub(/@.*/, "", $NF); print $NF }' | while read -r symbol; do
         case $symbol in
-            _ITM_* | __cxa_finalize | __gmon_start__ | __libc_start_main | memcpy | memset) continue ;;
+            _ITM_* | __cxa_finalize | __gmon_start__ | __libc_start_main | memcpy | memmove | memset) continue ;;
             __xpg_strerror_r) symbol=strerror_r ;;
             __errno_location) symbol=errno ;;
+            __sysv_signal) symbol=signal ;;
         esac
         case $assumed in *"\`$symbol\`"*) ;; *) echo "$symbol" ;; esac
     done
