@@ -102,10 +102,11 @@ assumed=$(sed -n '/^## What is assumed/,/^Not proved/p' "$top/README.md")
 unnamed() {
     nm -D -u "$top/crates/tool/out/tool" | awk '{ sub(/@.*/, "", $NF); print $NF }' | while read -r symbol; do
         case $symbol in
-            _ITM_* | __cxa_finalize | __gmon_start__ | __libc_start_main | memcpy | memmove | memset) continue ;;
+            _ITM_* | __cxa_finalize | __gmon_start__ | __libc_start_main | __x86_get_cpuid_feature_leaf | memcpy | memmove | memset) continue ;;
             __xpg_strerror_r) symbol=strerror_r ;;
             __errno_location) symbol=errno ;;
             __sysv_signal) symbol=signal ;;
+            __write) symbol=write ;;
         esac
         case $assumed in *"\`$symbol\`"*) ;; *) echo "$symbol" ;; esac
     done
