@@ -73,9 +73,9 @@ enum {
 };
 
 /*
- * Bytes of stack that are enough for a call of torzimlak_assemble, and of each other function. The code, as an older kit compiled it, takes
- * at most 1,079,320 bytes, torzimlak_run 21,032, torzimlak_resume 19,864, each other function under 19,000; the rest is for memcpy and
- * memset, of which a loader that binds them at their first call takes some thousands.
+ * Bytes of stack that are enough for a call of torzimlak_assemble, and of each other function. The code itself takes at most 1,080,264
+ * bytes, torzimlak_run 27,080, torzimlak_resume 20,808, each other function under 19,000; the rest is for memcpy and memset, of which a
+ * loader that binds them at their first call takes some thousands.
  */
 enum {
     TORZIMLAK_ASSEMBLE_STACK = 1114112,

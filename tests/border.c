@@ -16,7 +16,7 @@
 #include <sys/wait.h>
 #include <unistd.h>
 
-enum { STACK = 4 << 20, SHORT = 64 << 10, GUARD = 4096, SPARE = 16384, PAINT = 0xA5, MEMORY = TORZIMLAK_MAX_MEMORY, MORE = 3, MARK = 0x5EED, BUILD = 1, WAITING = 20, CASES = 1000 };
+enum { STACK = 4 << 20, SHORT = 64 << 10, GUARD = 4096, SPARE = 12288, PAINT = 0xA5, MEMORY = TORZIMLAK_MAX_MEMORY, MORE = 3, MARK = 0x5EED, BUILD = 1, WAITING = 20, CASES = 1000 };
 
 static uint8_t cards[32769];
 static size_t card_bytes;
@@ -211,9 +211,9 @@ static const struct {
     int leaves_state;
     size_t most;
 } calls[] = {
-    {"assemble", call_assemble, 0, 0, 1079320}, {"check_table", call_check_table, 0, 0, OTHERS}, {"warm_start", call_warm_start, 0, 1, OTHERS}, {"start", call_start, 0, 1, OTHERS},
-    {"check_state", call_check_state, 0, 0, OTHERS}, {"run", call_run, WAITING, 1, 21032}, {"write", call_write, 0, 0, OTHERS},
-    {"restore", call_restore, 0, 1, OTHERS}, {"resume", call_resume, 0, 1, 19864},
+    {"assemble", call_assemble, 0, 0, 1080264}, {"check_table", call_check_table, 0, 0, OTHERS}, {"warm_start", call_warm_start, 0, 1, OTHERS}, {"start", call_start, 0, 1, OTHERS},
+    {"check_state", call_check_state, 0, 0, OTHERS}, {"run", call_run, WAITING, 1, 27080}, {"write", call_write, 0, 0, OTHERS},
+    {"restore", call_restore, 0, 1, OTHERS}, {"resume", call_resume, 0, 1, 20808},
 };
 
 /* Cards of a program that translates a long string and waits, with a long switch whose values share one remainder by 1,024. */
