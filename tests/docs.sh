@@ -97,7 +97,7 @@ for page in README.md docs/PROOFS.md docs/ARCHITECTURE.md "$top"/docs/landings/*
     same "the paths of $page" "$(astray "$page")" ''
 done
 
-# The C functions that the command calls and README's list of what is assumed leaves out; the compiler's own calls are not among them.
+# The C functions that the command calls and README's list of what is assumed leaves out; those of the compiler and the loader are not among them.
 assumed=$(sed -n '/^## What is assumed/,/^Not proved/p' "$top/README.md")
 unnamed() {
     nm -D -u "$top/crates/tool/out/tool" | awk '{ sub(/@.*/, "", $NF); print $NF }' | while read -r symbol; do
