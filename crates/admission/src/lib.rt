@@ -10,23 +10,22 @@ use state_check::passing::state_ok;
 use states::State;
 use tables::check_table;
 
-// What the checks find: both pass, or the first that fails.
+// The first of the checks that fails.
 #[derive(Clone, Copy)]
-pub enum Admission {
-    Granted,
+pub enum Refusal {
     BadTable,
     BadState,
 }
 
 // Whether a state with len words of memory may be run on a table: refused by 30, then by 31. Any table and any state may be asked.
-pub fn check_state(table: &[u32], len: usize, s: State) -> Admission
+pub fn check_state(table: &[u32], len: usize, s: State) -> Result<(), Refusal>
     ensures { (mem : List ℕ) → length mem ≡ len → verdict_of result ≡ admitted table.now (state_of s mem) }
 {
     if !check_table(table) {
-        return Admission::BadTable;
+        return Err(Refusal::BadTable);
     }
     if state_ok(table, len, s) {
-        return Admission::Granted;
+        return Ok(());
     }
-    Admission::BadState
+    Err(Refusal::BadState)
 }

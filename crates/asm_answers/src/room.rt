@@ -7,11 +7,7 @@ fn copy(from: &[u32], to: &mut [u32])
     requires { length from.now ≤ length to.old }
     ensures { to.new ≡ from.now ++ drop (length from.now) to.old }
 {
-    let mut i: usize = 0;
-    while i < from.len() {
-        to[i] = from[i];
-        i += 1;
-    }
+    to[..from.len()].copy_from_slice(from);
 }
 
 // Whether the draft has room in the lent words; if so, it stands at their front, else none of them changes.

@@ -17,31 +17,20 @@ abbrev pub symbol_room : ℕ
 symbol_room = 27310
 
 abbrev pub collected_in : ℕ → Counts → Collected
-collected_in n k =
-    record {
-      labels = n;
-      size = k.size;
-      constants = k.constants;
-      workings = k.workings;
-      fresh = k.fresh;
-      externals = k.externals;
-      section5 = k.section5;
-      section6 = k.section6;
-      closed = k.closed;
-    }
+collected_in n k = record { labels = n; counts = k }
 
 -- the eight words of the header
 abbrev pub header_in : Collected → List ℕ
 header_in r =
-    r.size ∷ r.constants ∷ r.workings ∷ r.fresh ∷ r.externals ∷ 0 ∷ r.section5 ∷ r.section6 ∷ []
+    r.counts.size ∷ r.counts.constants ∷ r.counts.workings ∷ r.counts.fresh ∷ r.counts.externals ∷ 0 ∷ r.counts.section5 ∷ r.counts.section6 ∷ []
 
 pub record CollectedOf (text ys : List ℕ) (r : Collected) : Type 0 where
   pub symbols : symbols_in ys r.labels ≡ symbols_of (cards_of text)
   pub symbolic : Symbolic ys r.labels
   pub labels_le : r.labels ≤ most_labels
   pub header_is : header_in r ≡ header (cards_of text)
-  pub closed_is : r.closed ≡ is_closed (cards_of text)
-  pub size_le : r.size ≤ 16384
-  pub fresh_le : r.fresh ≤ 16384
-  pub externals_le : r.externals ≤ 16384
-  pub words_le : r.constants + r.workings ≤ 32768
+  pub closed_is : r.counts.closed ≡ is_closed (cards_of text)
+  pub size_le : r.counts.size ≤ 16384
+  pub fresh_le : r.counts.fresh ≤ 16384
+  pub externals_le : r.counts.externals ≤ 16384
+  pub words_le : r.counts.constants + r.counts.workings ≤ 32768

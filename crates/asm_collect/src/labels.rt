@@ -14,6 +14,7 @@ ghost use Rattle.asm_collect.specs.Stored.{SortOf, Stored};
 use asm_operations::sorts::sort_of;
 use asm_outcomes::value_at;
 use asm_symbols::fields::add;
+use asm_symbols::list::SymbolList;
 use asm_types::{Card, Sort};
 use ops::constants::Machine;
 use ops::table::Operations;
@@ -35,9 +36,9 @@ fn sort_in(list: &Operations, c: Card) -> u64
 }
 
 // The value of a label of a sort, given the symbols above.
-fn value_of(list: &Operations, c: Card, s: &[u8], syms: &[u64], n: usize, sort: u64) -> u32
-    requires { (list.now ≡ map cells_of rows) × Symbolic syms.now n × Counted max_bytes (reader_view c.spot) }
-    ensures { (result ≡ symbol_value (sort_at sort) (symbols_in syms.now n) (card_view c s.now)) × (first_placed ≤ sort → result ≤ most_places) }
+fn value_of(list: &Operations, c: Card, s: &[u8], symbols: &SymbolList<'_>, sort: u64) -> u32
+    requires { (list.now ≡ map cells_of rows) × Counted max_bytes (reader_view c.spot) }
+    ensures { (result ≡ symbol_value (sort_at sort) (symbols_in symbols.now.words.now symbols.now.n) (card_view c s.now)) × (first_placed ≤ sort → result ≤ most_places) }
 {
     if Sort::ENTRY <= sort {
         return c.spot.place;
@@ -46,10 +47,10 @@ fn value_of(list: &Operations, c: Card, s: &[u8], syms: &[u64], n: usize, sort: 
         return Machine::CFP_B * c.spot.word;
     }
     if sort == Sort::EQUAL {
-        return value_at(list, c, s, syms, n, 0);
+        return value_at(list, c, s, symbols, 0);
     }
     if sort == Sort::INTERNAL {
-        return value_at(list, c, s, syms, n, 1);
+        return value_at(list, c, s, symbols, 1);
     }
     if sort == Sort::EXTERNAL {
         return c.spot.external;
@@ -58,14 +59,14 @@ fn value_of(list: &Operations, c: Card, s: &[u8], syms: &[u64], n: usize, sort: 
 }
 
 // The letter of an INP.
-fn letter_of(list: &Operations, c: Card, s: &[u8], syms: &[u64], n: usize, sort: u64) -> u32
-    requires { (list.now ≡ map cells_of rows) × Symbolic syms.now n × (sort ≤ last_sort) }
-    ensures { result ≡ if (is_sort internal (sort_at sort)) (value_in (operand_at (outcomes (symbols_in syms.now n) (card_view c s.now)) 0)) 0 }
+fn letter_of(list: &Operations, c: Card, s: &[u8], symbols: &SymbolList<'_>, sort: u64) -> u32
+    requires { (list.now ≡ map cells_of rows) × (sort ≤ last_sort) }
+    ensures { result ≡ if (is_sort internal (sort_at sort)) (value_in (operand_at (outcomes (symbols_in symbols.now.words.now symbols.now.n) (card_view c s.now)) 0)) 0 }
 {
     if sort != Sort::INTERNAL {
         return 0;
     }
-    value_at(list, c, s, syms, n, 0)
+    value_at(list, c, s, symbols, 0)
 }
 
 // The card's symbol, if it has a label, becomes symbol n; how many there are then.
@@ -78,8 +79,9 @@ pub fn store_symbol(list: &Operations, c: Card, s: &[u8], syms: &mut [u64], n: u
         return n;
     }
     let sort = sort_in(list, c);
-    let value = wide(value_of(list, c, s, syms, n, sort));
-    let letter = wide(letter_of(list, c, s, syms, n, sort));
+    let above = SymbolList { words: syms, n };
+    let value = wide(value_of(list, c, s, &above, sort));
+    let letter = wide(letter_of(list, c, s, &above, sort));
     let line = wide(c.spot.line);
     add(syms, n, name, line, sort, value, letter);
     n + 1

@@ -4,7 +4,7 @@
 ghost use Rattle.std.specs.Prelude.{◌≡◌, map, ◌≤◌, length};
 ghost use Rattle.ops.specs.Ops.{rows, cells_of};
 ghost use Rattle.language.specs.Text.{max_bytes};
-ghost use Rattle.asm_collect.specs.Gathered.{CollectedOf, collected_in, symbol_room};
+ghost use Rattle.asm_collect.specs.Gathered.{CollectedOf, symbol_room};
 
 pub mod labels;
 pub mod numbers;
@@ -16,35 +16,11 @@ use asm_reader::line_end;
 use asm_types::Reader;
 use ops::table::Operations;
 
-// What a text holds: its label fields, the numbers of its header, and whether END closes section 6.
+// What a text holds: its label fields, and the counts of its cards.
 #[derive(Clone, Copy)]
 pub struct Collected {
     pub labels: usize,
-    pub size: u32,
-    pub constants: u32,
-    pub workings: u32,
-    pub fresh: u32,
-    pub externals: u32,
-    pub section5: u32,
-    pub section6: u32,
-    pub closed: bool,
-}
-
-// The symbols' number and the counts as one.
-fn gathered(labels: usize, k: Counts) -> Collected
-    ensures { result ≡ collected_in labels k }
-{
-    Collected {
-        labels,
-        size: k.size,
-        constants: k.constants,
-        workings: k.workings,
-        fresh: k.fresh,
-        externals: k.externals,
-        section5: k.section5,
-        section6: k.section6,
-        closed: k.closed,
-    }
+    pub counts: Counts,
 }
 
 // The symbols of all cards, stored from the front of `syms`, and the header's numbers.
@@ -77,10 +53,16 @@ pub fn collect(list: &Operations, text: &[u8], syms: &mut [u64]) -> Collected
         n = store_symbol(list, c, &text[at..e], syms, n);
         k = counted(k, c, &text[at..e]);
         if is_closing(c) {
-            return gathered(n, k);
+            return Collected {
+                labels: n,
+                counts: k,
+            };
         }
         r = past(c, &text[at..e]);
         at = e + 1;
     }
-    gathered(n, k)
+    Collected {
+        labels: n,
+        counts: k,
+    }
 }

@@ -11,8 +11,7 @@ use Rattle.base.specs.Lists.{◌at◌, member}
 use Rattle.ops.specs.Format.{Format, no_kind}
 use Rattle.ops.specs.Machine.{cfp_m}
 use Rattle.supplied.specs.Supplied.{supplied_of}
-use Rattle.supplied.specs.declared.Supplied.{Supplied}
-use Rattle.supplied.specs.declared.Supplied.TheVariants.{Value, Absent}
+use Rattle.std.specs.Prelude.{Option, Some, None}
 use Rattle.language.specs.Text.{Parsed, parsed, unparsed}
 use Rattle.language.specs.Operation.{formats_of}
 use Rattle.language.specs.Form.{Form, constant, difference, falling, formless, indexed, indirect, literal, multiple, named, omitted, plain, procedure_type, real, register, rising, signed, star, sum, written_forms}
@@ -252,9 +251,9 @@ signed_fit : (b : Bool) (n : ℕ) → PlaceFits (signed_within b n)
 unfolding signed_within
 signed_fit b n = if-fit b _ _ (if-fit _ _ _ (λ e. omega arith) tt) (value-fit _ _)
 
-supplied-fit : (s : Supplied) → PlaceFits (supplied_by s)
-supplied-fit (Value v) = λ e. omega arith
-supplied-fit Absent = tt
+supplied-fit : (s : Option ℕ) → PlaceFits (supplied_by s)
+supplied-fit (Some v) = λ e. omega arith
+supplied-fit None = tt
 
 module _ (all : List Symbol) (fit : PlacesFit all) (c : Card) where
   resolved-fit : (f : Format) (o : Form) → PlaceFits (resolved all c f o)

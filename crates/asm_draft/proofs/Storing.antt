@@ -1,13 +1,12 @@
 -- Words written one behind the other: one store, two parts, and a list that is written from its front.
 -- Assumes nothing.
-use Prim.Native.Nat.{ℕ, suc, ◌+◌, ◌<◌, ◌≤◌}
+use Prim.Native.Nat.{ℕ, ◌+◌, ◌<◌, ◌≤◌}
 use native.Mathlib.Numerals.{add-one}
 use native.Mathlib.Omega.{arith}
 use mathlib.Core.Path.{◌≡◌, refl, sym, ap, ◌∙◌}
 use mathlib.Core.List.{List, [], ◌∷◌, ◌++◌, append_assoc, append-nil}
-use lib.ListN.{drop, drop_of_length-le, length, length-append, length-set, set, take}
-use lib.Seq.{drop-cons, drop-drop, drop-set-lt, length-take-le, set_at, take-set-lt, take-suc-set}
-use Rattle.base.specs.Lists.{◌at◌}
+use lib.ListN.{drop, length, length-append, length-set, set, take}
+use lib.Seq.{drop-drop, drop-set-lt, length-take-le, set_at, take-set-lt, take-suc-set}
 use Rattle.language.specs.Image.{zero_first}
 use Rattle.asm_draft.specs.Written.{Written}
 
@@ -78,32 +77,3 @@ filled old start whole out w f =
 pub room : (old : List ℕ) (start : ℕ) (whole out : List ℕ) (w : ℕ) (ws rest : List ℕ) → Filling old start whole out w (ws ++ rest)
     → start + length whole ≤ length old → w + length ws ≤ length out
 room old start whole out w ws rest f h = omega (arith, f.same, f.count, length-append ws rest)
-
--- eight words, of which k stand
-pub record Eight (old : List ℕ) (start : ℕ) (ws out : List ℕ) (k : ℕ) : Type 0 where
-  pub long : length ws ≡ 8
-  pub k_le : k ≤ 8
-  pub so_far : Filling old start ws out (start + k) (drop k ws)
-
-pub eight-start : (old : List ℕ) (start : ℕ) (ws : List ℕ) → length ws ≡ 8 → Eight old start ws old 0
-eight-start old start ws e =
-    let z : start + 0 ≡ start = omega arith in
-    record { long = e; k_le = omega arith; so_far = rw z (begun old start ws) }
-
-pub eight-more : (old : List ℕ) (start : ℕ) (ws out : List ℕ) (k : ℕ) → Eight old start ws out k → k < 8 → start + 8 ≤ length old
-    → Eight old start ws (set out (start + k) (ws at k)) (k + 1)
-eight-more old start ws out k v h r =
-    let l : k < length ws = omega (arith, v.long) in
-    let f : Filling old start ws out (start + k) ((ws at k ∷ []) ++ drop (suc k) ws) = rw (drop-cons ws k 0 l) at v.so_far in
-    let p = put-more old start ws out (start + k) (ws at k ∷ []) (drop (suc k) ws) _ _ f
-    (stored out (start + k) (ws at k) (omega (arith, v.so_far.same))) in
-    let s : start + (k + 1) ≡ start + k + 1 = omega arith in
-    let d : drop (k + 1) ws ≡ drop (suc k) ws = rw add-one in
-    record { long = v.long; k_le = omega arith; so_far = rw (s, d) p }
-
-pub eight-done : (old : List ℕ) (start : ℕ) (ws out : List ℕ) (k : ℕ) → Eight old start ws out k → 8 ≤ k → Written old start ws out (start + 8)
-eight-done old start ws out k v h =
-    let e : k ≡ 8 = omega (arith, v.k_le) in
-    let d : drop 8 ws ≡ [] = drop_of_length-le ws {i = 8} (omega (arith, v.long)) in
-    let f : Filling old start ws out (start + 8) (drop 8 ws) = rw e at v.so_far in
-    filled old start ws out (start + 8) (rw d at f)

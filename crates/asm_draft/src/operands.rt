@@ -9,14 +9,14 @@ ghost use Rattle.language.specs.Symbol.{declared_count, fields_named};
 ghost use Rattle.language.specs.Operand.{operand_at, outcomes};
 ghost use Rattle.language.specs.Image.{first_operand, third_of};
 ghost use Rattle.asm_types.specs.Views.{card_view, operation_view, outcome_view, parsed_view, symbols_in};
-ghost use Rattle.asm_symbols.specs.Symbolic.{FitsCount, Symbolic};
+ghost use Rattle.asm_symbols.specs.Symbolic.{FitsCount};
 ghost use Rattle.asm_operations.specs.Codes.{row_of};
 ghost use Rattle.asm_draft.specs.Operands.{FieldsOf, PlaceFits, type_count};
 
 use asm_operations::codes::class_of;
 use asm_outcomes::outcome_at;
-use asm_symbols::uses::declared_count;
-use asm_types::{Card, Given, Operation, Outcome, Parsed};
+use asm_symbols::list::SymbolList;
+use asm_types::{Card, Given, Operation, Outcome};
 use asm_values::values::narrow;
 use ops::class;
 use ops::format::{NO_KIND, PLACE_KIND, VALUE_KIND};
@@ -69,15 +69,15 @@ pub fn type_count(list: &Operations, o: Operation) -> usize
 }
 
 // The count that an INP declares for a PRC.
-fn declared(list: &Operations, c: Card, syms: &[u64], n: usize) -> Parsed
-    requires { (list.now ≡ map cells_of rows) × Symbolic syms.now n }
-    ensures { (parsed_view result ≡ if (has_class (marks PRC) (operation_view c.operation)) (declared_count (fields_named c.label (symbols_in syms.now n))) unparsed) × FitsCount result }
+fn declared(list: &Operations, c: Card, symbols: &SymbolList<'_>) -> Option<u64>
+    requires { list.now ≡ map cells_of rows }
+    ensures { (parsed_view result ≡ if (has_class (marks PRC) (operation_view c.operation)) (declared_count (fields_named c.label (symbols_in symbols.now.words.now symbols.now.n))) unparsed) × FitsCount result }
 {
     let o = c.operation;
     if class_of(list, o) != class::PRC {
-        return Parsed::Not;
+        return None;
     }
-    declared_count(syms, n, c.label)
+    symbols.declared_count(c.label)
 }
 
 // Operand i as the first of an entry: that of a PRC is the declared count.
@@ -85,16 +85,15 @@ pub fn first_operand(
     list: &Operations,
     c: Card,
     s: &[u8],
-    syms: &[u64],
-    n: usize,
+    symbols: &SymbolList<'_>,
     i: usize,
 ) -> Given
-    requires { (list.now ≡ map cells_of rows) × Symbolic syms.now n × (i < 2) }
-    ensures { FieldsOf (first_operand (symbols_in syms.now n) (card_view c s.now) (operand_at (outcomes (symbols_in syms.now n) (card_view c s.now)) i)) result }
+    requires { (list.now ≡ map cells_of rows) × (i < 2) }
+    ensures { FieldsOf (first_operand (symbols_in symbols.now.words.now symbols.now.n) (card_view c s.now) (operand_at (outcomes (symbols_in symbols.now.words.now symbols.now.n) (card_view c s.now)) i)) result }
 {
-    let count = declared(list, c, syms, n);
-    let Parsed::Is(v) = count else {
-        return given_of(outcome_at(list, c, s, syms, n, i));
+    let count = declared(list, c, symbols);
+    let Some(v) = count else {
+        return given_of(outcome_at(list, c, s, symbols, i));
     };
     Given {
         kind: VALUE_KIND,

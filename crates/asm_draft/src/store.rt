@@ -16,10 +16,6 @@ pub fn put_eight(draft: &mut [u32], end: usize, ws: [u32; 8]) -> usize
     requires { end + 8 ≤ length draft.old }
     ensures { Written draft.old end ws draft.new result }
 {
-    let mut k: usize = 0;
-    while k < 8 {
-        draft[end + k] = ws[k];
-        k += 1;
-    }
+    draft[end..end + 8].copy_from_slice(&ws);
     end + 8
 }

@@ -4,12 +4,11 @@ ghost use Rattle.ops.specs.Ops.{rows, cells_of};
 ghost use Rattle.language.specs.Fault as Fault;
 ghost use Rattle.asm_types.specs.Views.{symbols_in};
 ghost use Rattle.asm_cards.specs.Reading.{OfCard};
-ghost use Rattle.asm_symbols.specs.Symbolic.{Symbolic};
 ghost use Rattle.asm_faults.specs.Groups.{label_right, symbol_deck};
 
 use asm_operations::labels::{bars_label, wants_label};
 use asm_operations::sorts::sort_of;
-use asm_symbols::uses::is_one_use;
+use asm_symbols::list::SymbolList;
 use asm_types::Card;
 use ops::table::Operations;
 
@@ -38,22 +37,22 @@ fn label_wanted(list: &Operations, c: Card) -> bool
 }
 
 // A label is one use with the fields of its name above it.
-fn label_once(list: &Operations, c: Card, syms: &[u64], n: usize) -> bool
-    requires { (list.now ≡ map cells_of rows) × Symbolic syms.now n }
-    ensures { OfCard (Fault.label_once (symbol_deck (symbols_in syms.now n))) c result }
+fn label_once(list: &Operations, c: Card, symbols: &SymbolList<'_>) -> bool
+    requires { list.now ≡ map cells_of rows }
+    ensures { OfCard (Fault.label_once (symbol_deck (symbols_in symbols.now.words.now symbols.now.n))) c result }
 {
     if c.label == 0 {
         return true;
     }
     let o = c.operation;
     let sort = sort_of(list, c.spot.opened, o);
-    is_one_use(syms, n, c.spot.line as u64, c.label, sort)
+    symbols.is_one_use(c.spot.line as u64, c.label, sort)
 }
 
 // The label is there where it is wanted, and there alone, and once.
-pub fn label_right(list: &Operations, c: Card, syms: &[u64], n: usize) -> bool
-    requires { (list.now ≡ map cells_of rows) × Symbolic syms.now n }
-    ensures { OfCard (label_right (symbol_deck (symbols_in syms.now n))) c result }
+pub fn label_right(list: &Operations, c: Card, symbols: &SymbolList<'_>) -> bool
+    requires { list.now ≡ map cells_of rows }
+    ensures { OfCard (label_right (symbol_deck (symbols_in symbols.now.words.now symbols.now.n))) c result }
 {
     if !label_there(list, c) {
         return false;
@@ -61,5 +60,5 @@ pub fn label_right(list: &Operations, c: Card, syms: &[u64], n: usize) -> bool
     if !label_wanted(list, c) {
         return false;
     }
-    label_once(list, c, syms, n)
+    label_once(list, c, symbols)
 }

@@ -4,7 +4,6 @@
 ghost use Rattle.std.specs.Prelude.{◌≡◌, map};
 ghost use Rattle.ops.specs.Ops.{rows, cells_of};
 ghost use Rattle.asm_types.specs.Views.{card_view, symbols_in};
-ghost use Rattle.asm_symbols.specs.Symbolic.{Symbolic};
 ghost use Rattle.asm_faults.specs.Groups.{FaultOf};
 
 pub mod labels;
@@ -18,13 +17,14 @@ use crate::numbers::*;
 use crate::operands::{lists_right, operands_right};
 use asm_outcomes::all_defined;
 use asm_sections::of_section;
+use asm_symbols::list::SymbolList;
 use asm_types::Card;
 use ops::table::Operations;
 
 // The smallest number of a card's faults, or 0; `shape` is the fault of its place.
-pub fn fault_of(list: &Operations, c: Card, s: &[u8], syms: &[u64], n: usize, shape: u32) -> u32
-    requires { (list.now ≡ map cells_of rows) × Symbolic syms.now n }
-    ensures { FaultOf (symbols_in syms.now n) (card_view c s.now) shape result }
+pub fn fault_of(list: &Operations, c: Card, s: &[u8], symbols: &SymbolList<'_>, shape: u32) -> u32
+    requires { list.now ≡ map cells_of rows }
+    ensures { FaultOf (symbols_in symbols.now.words.now symbols.now.n) (card_view c s.now) shape result }
 {
     if !line_formed(list, c, s) {
         return MALFORMED;
@@ -33,16 +33,16 @@ pub fn fault_of(list: &Operations, c: Card, s: &[u8], syms: &[u64], n: usize, sh
     if !of_section(c.spot.opened, o) {
         return MISPLACED;
     }
-    if !label_right(list, c, syms, n) {
+    if !label_right(list, c, symbols) {
         return MISLABELLED;
     }
-    if !operands_right(list, c, s, syms, n, shape) {
+    if !operands_right(list, c, s, symbols, shape) {
         return MISFIT;
     }
-    if !all_defined(list, c, s, syms, n) {
+    if !all_defined(list, c, s, symbols) {
         return UNDEFINED;
     }
-    if !lists_right(list, c, s, syms, n, shape) {
+    if !lists_right(list, c, s, symbols, shape) {
         return BAD_LIST;
     }
     if shape != 0 {

@@ -1,4 +1,4 @@
-// The faults of a line by their numbers [S Numbers the host sees].
+// The faults of a line by their numbers, which the host sees, and of which a line gives the smallest: they may not change [S Numbers the host sees].
 
 pub const MALFORMED: u32 = 1;
 

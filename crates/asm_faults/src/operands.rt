@@ -4,7 +4,6 @@ ghost use Rattle.ops.specs.Ops.{rows, cells_of};
 ghost use Rattle.language.specs.Fault as Fault;
 ghost use Rattle.asm_types.specs.Views.{card_view, symbols_in};
 ghost use Rattle.asm_cards.specs.Reading.{OfCard};
-ghost use Rattle.asm_symbols.specs.Symbolic.{Symbolic};
 ghost use Rattle.asm_faults.specs.Groups.{lists_right, operands_right, symbol_deck};
 
 use crate::lines::{comma_there, text_there};
@@ -12,8 +11,7 @@ use crate::numbers::{BAD_LIST, MISFIT};
 use asm_operations::codes::class_of;
 use asm_operations::formats::format_count;
 use asm_outcomes::{all_fit, form_count, value_at};
-use asm_symbols::fields::has_sort;
-use asm_symbols::uses::declared_so;
+use asm_symbols::list::SymbolList;
 use asm_types::{Card, Sort};
 use ops::class;
 use ops::table::Operations;
@@ -32,17 +30,16 @@ pub fn operands_right(
     list: &Operations,
     c: Card,
     s: &[u8],
-    syms: &[u64],
-    n: usize,
+    symbols: &SymbolList<'_>,
     shape: u32,
 ) -> bool
-    requires { (list.now ≡ map cells_of rows) × Symbolic syms.now n }
-    ensures { result ≡ operands_right (symbol_deck (symbols_in syms.now n)) (card_view c s.now) shape }
+    requires { list.now ≡ map cells_of rows }
+    ensures { result ≡ operands_right (symbol_deck (symbols_in symbols.now.words.now symbols.now.n)) (card_view c s.now) shape }
 {
     if !no_surplus(list, c, s) {
         return false;
     }
-    if !all_fit(list, c, s, syms, n) {
+    if !all_fit(list, c, s, symbols) {
         return false;
     }
     if !comma_there(list, c, s) {
@@ -55,40 +52,46 @@ pub fn operands_right(
 }
 
 // A PRC has the type and the count that its INP declares.
-fn procedure_declared(list: &Operations, c: Card, s: &[u8], syms: &[u64], n: usize) -> bool
-    requires { (list.now ≡ map cells_of rows) × Symbolic syms.now n }
-    ensures { result ≡ Fault.procedure_declared (symbol_deck (symbols_in syms.now n)) (card_view c s.now) }
+fn procedure_declared(list: &Operations, c: Card, s: &[u8], symbols: &SymbolList<'_>) -> bool
+    requires { list.now ≡ map cells_of rows }
+    ensures { result ≡ Fault.procedure_declared (symbol_deck (symbols_in symbols.now.words.now symbols.now.n)) (card_view c s.now) }
 {
     let o = c.operation;
     if class_of(list, o) != class::PRC {
         return true;
     }
-    let letter = value_at(list, c, s, syms, n, 0);
-    let count = value_at(list, c, s, syms, n, 1);
-    declared_so(syms, n, c.label, letter as u64, count as u64)
+    let letter = value_at(list, c, s, symbols, 0);
+    let count = value_at(list, c, s, symbols, 1);
+    symbols.declared_so(c.label, letter as u64, count as u64)
 }
 
 // An RTN has its INR.
-fn routine_declared(list: &Operations, c: Card, syms: &[u64], n: usize) -> bool
-    requires { (list.now ≡ map cells_of rows) × Symbolic syms.now n }
-    ensures { OfCard (Fault.routine_declared (symbol_deck (symbols_in syms.now n))) c result }
+fn routine_declared(list: &Operations, c: Card, symbols: &SymbolList<'_>) -> bool
+    requires { list.now ≡ map cells_of rows }
+    ensures { OfCard (Fault.routine_declared (symbol_deck (symbols_in symbols.now.words.now symbols.now.n))) c result }
 {
     let o = c.operation;
     if class_of(list, o) != class::RTN {
         return true;
     }
-    has_sort(syms, n, c.label, Sort::ROUTINE)
+    symbols.has_sort(c.label, Sort::ROUTINE)
 }
 
 // A PRC and an RTN are declared, and the lists are right; `shape` is the fault of the card's place.
-pub fn lists_right(list: &Operations, c: Card, s: &[u8], syms: &[u64], n: usize, shape: u32) -> bool
-    requires { (list.now ≡ map cells_of rows) × Symbolic syms.now n }
-    ensures { result ≡ lists_right (symbol_deck (symbols_in syms.now n)) (card_view c s.now) shape }
+pub fn lists_right(
+    list: &Operations,
+    c: Card,
+    s: &[u8],
+    symbols: &SymbolList<'_>,
+    shape: u32,
+) -> bool
+    requires { list.now ≡ map cells_of rows }
+    ensures { result ≡ lists_right (symbol_deck (symbols_in symbols.now.words.now symbols.now.n)) (card_view c s.now) shape }
 {
-    if !procedure_declared(list, c, s, syms, n) {
+    if !procedure_declared(list, c, s, symbols) {
         return false;
     }
-    if !routine_declared(list, c, syms, n) {
+    if !routine_declared(list, c, symbols) {
         return false;
     }
     shape != BAD_LIST

@@ -1,11 +1,10 @@
 -- What a text is read as, a number or a symbol, apart from the form made of it.
 -- Assumes nothing.
-use Rattle.std.specs.Prelude.{ℕ, List}
+use Rattle.std.specs.Prelude.{ℕ, List, Option, Some, None}
 use Rattle.language.specs.Text.{Parsed, number_of, parsed, symbol_of, unparsed}
 use Rattle.language.specs.Form.{Term, constant, named}
 use Rattle.asm_types.specs.Views.{cut_term, term_view}
-use Rattle.asm_forms.specs.declared.operand.Value.{Value}
-use Rattle.asm_forms.specs.declared.operand.Value.TheVariants.{Is, Not}
+use Rattle.asm_types.specs.declared.Term as declared
 
 pub data Read : Type 0 where
   read : Term → Read
@@ -24,6 +23,6 @@ abbrev pub cut_read : Read → Read
 cut_read (read v) = read (cut_term v)
 cut_read unread = unread
 
-abbrev pub value_view : Value → Read
-value_view (Is v) = read (term_view v)
-value_view Not = unread
+abbrev pub value_view : Option declared.Term → Read
+value_view (Some v) = read (term_view v)
+value_view None = unread

@@ -8,28 +8,18 @@ ghost use Rattle.asm_forms.specs.Terms.{cut_read, term_in, value_view};
 
 use asm_names::{index_register, number_of, register_of, symbol_of};
 use asm_text::find_byte;
-use asm_types::{Displaced, Form, Parsed, Term, Terms};
-
-// A number or a symbol; or the text is neither.
-#[derive(Clone, Copy)]
-pub enum Value {
-    Is(Term),
-    Not,
-}
+use asm_types::{Displaced, Form, Term, Terms};
 
 // The number or the symbol that a text is.
-pub fn term_of(s: &[u8]) -> Value
+pub fn term_of(s: &[u8]) -> Option<Term>
     ensures { value_view result ≡ cut_read (term_in s.now) }
 {
     let k = symbol_of(s);
-    if let Parsed::Is(k) = k {
-        return Value::Is(Term::Named(k));
+    if let Some(k) = k {
+        return Some(Term::Named(k));
     }
-    let n = number_of(s);
-    let Parsed::Is(n) = n else {
-        return Value::Not;
-    };
-    Value::Is(Term::Constant(n))
+    let n = number_of(s)?;
+    Some(Term::Constant(n))
 }
 
 // Byte i, or 0 past the end.
@@ -51,18 +41,18 @@ fn narrow(n: u64) -> u32
 }
 
 // The index register between parentheses, of a text of n bytes that begins with one.
-fn index_in(s: &[u8], n: usize) -> Parsed
+fn index_in(s: &[u8], n: usize) -> Option<u64>
     requires { 4 ≤ n }
     ensures { parsed_view result ≡ index_in s.now n }
 {
     if s.len() != n {
-        return Parsed::Not;
+        return None;
     }
     if s[0] != b'(' {
-        return Parsed::Not;
+        return None;
     }
     if s[3] != b')' {
-        return Parsed::Not;
+        return None;
     }
     index_register(&s[1..3])
 }
@@ -87,7 +77,7 @@ fn literal_form(s: &[u8]) -> Form
     ensures { form_view result ≡ cut_form (marked_form s.now) }
 {
     let k = symbol_of(&s[1..s.len()]);
-    let Parsed::Is(k) = k else {
+    let Some(k) = k else {
         return Form::Formless;
     };
     Form::Literal(k)
@@ -99,7 +89,7 @@ fn multiple_form(s: &[u8]) -> Form
     ensures { form_view result ≡ cut_form (marked_form s.now) }
 {
     let k = symbol_of(&s[1..s.len()]);
-    let Parsed::Is(k) = k else {
+    let Some(k) = k else {
         return Form::Formless;
     };
     Form::Multiple(k)
@@ -111,14 +101,14 @@ fn bracket_form(s: &[u8]) -> Form
     ensures { form_view result ≡ cut_form (marked_form s.now) }
 {
     let r = index_in(s, 4);
-    if let Parsed::Is(r) = r {
+    if let Some(r) = r {
         return Form::Indirect(narrow(r));
     }
     if byte_at(s, 4) != b'+' {
         return Form::Formless;
     }
     let q = index_in(s, 5);
-    let Parsed::Is(q) = q else {
+    let Some(q) = q else {
         return Form::Formless;
     };
     Form::Rising(narrow(q))
@@ -130,7 +120,7 @@ fn positive_form(s: &[u8]) -> Form
     ensures { form_view result ≡ cut_form (signed_form s.now) }
 {
     let n = number_of(&s[1..s.len()]);
-    let Parsed::Is(n) = n else {
+    let Some(n) = n else {
         return Form::Formless;
     };
     Form::Positive(n)
@@ -142,11 +132,11 @@ fn negative_form(s: &[u8]) -> Form
     ensures { form_view result ≡ cut_form (signed_form s.now) }
 {
     let n = number_of(&s[1..s.len()]);
-    if let Parsed::Is(n) = n {
+    if let Some(n) = n {
         return Form::Negative(n);
     }
     let r = index_in(&s[1..s.len()], 4);
-    let Parsed::Is(r) = r else {
+    let Some(r) = r else {
         return Form::Formless;
     };
     Form::Falling(narrow(r))
@@ -158,11 +148,11 @@ fn indexed_form(s: &[u8], i: usize) -> Form
     ensures { form_view result ≡ cut_form (indexed_form s.now i) }
 {
     let r = index_in(&s[i..s.len()], 4);
-    let Parsed::Is(r) = r else {
+    let Some(r) = r else {
         return Form::Formless;
     };
     let v = term_of(&s[0..i]);
-    let Value::Is(v) = v else {
+    let Some(v) = v else {
         return Form::Formless;
     };
     let reg = narrow(r);
@@ -175,11 +165,11 @@ fn combined_form(s: &[u8], i: usize) -> Form
     ensures { form_view result ≡ cut_form (combined_form s.now i) }
 {
     let v = term_of(&s[0..i]);
-    let Value::Is(v) = v else {
+    let Some(v) = v else {
         return Form::Formless;
     };
     let w = term_of(&s[i + 1..s.len()]);
-    let Value::Is(w) = w else {
+    let Some(w) = w else {
         return Form::Formless;
     };
     if s[i] == b'+' {
@@ -198,17 +188,15 @@ fn combined_form(s: &[u8], i: usize) -> Form
 fn find_sign(s: &[u8]) -> usize
     ensures { result ≡ span before_sign s.now }
 {
-    let mut i: usize = 0;
-    while i < s.len() {
+    for i in 0..s.len() {
         if s[i] == b'+' {
             return i;
         }
         if s[i] == b'-' {
             return i;
         }
-        i += 1;
     }
-    i
+    s.len()
 }
 
 // A text of several bytes that is no number, symbol or register.
@@ -249,11 +237,11 @@ pub fn form_of(s: &[u8]) -> Form
     ensures { form_view result ≡ cut_form (form_of s.now) }
 {
     let v = term_of(s);
-    if let Value::Is(v) = v {
+    if let Some(v) = v {
         return Form::Plain(v);
     }
     let r = register_of(s);
-    if let Parsed::Is(r) = r {
+    if let Some(r) = r {
         return Form::Register(narrow(r));
     }
     if s.len() == 1 {

@@ -7,7 +7,7 @@ ghost use Rattle.asm_types.specs.Views.{cut_form, form_view};
 ghost use Rattle.asm_forms.specs.Quotes.{Quotes};
 
 use crate::operand::form_of;
-use asm_reals::{Decimal, decimal_of};
+use asm_reals::decimal_of;
 use asm_text::{BLANK, COMMA, fields_of, find_byte};
 use asm_types::Form;
 
@@ -29,10 +29,8 @@ pub fn text_count(f: &[u8]) -> usize
         return 0;
     }
     let mut n: usize = 1;
-    let mut i: usize = 0;
-    while i < f.len() {
+    for i in 0..f.len() {
         n += ends_text(f[i]);
-        i += 1;
     }
     n
 }
@@ -44,11 +42,10 @@ fn form_by(real: bool, s: &[u8]) -> Form
     if !real {
         return form_of(s);
     }
-    let d = decimal_of(s);
-    let Decimal::Written(_, _, _) = d else {
-        return Form::Formless;
-    };
-    Form::Real
+    match decimal_of(s) {
+        Some(_) => Form::Real,
+        None => Form::Formless,
+    }
 }
 
 // The form of text i of an operand field, formless where there is none.
@@ -59,14 +56,12 @@ pub fn form_at(real: bool, f: &[u8], i: usize) -> Form
         return Form::Formless;
     }
     let mut from: usize = 0;
-    let mut k = i;
-    while 0 < k {
+    for _k in 0..i {
         let e = find_byte(f, from, COMMA);
         if e == f.len() {
             return Form::Formless;
         }
         from = e + 1;
-        k -= 1;
     }
     let e = find_byte(f, from, COMMA);
     form_by(real, &f[from..e])

@@ -6,7 +6,7 @@ ghost use Rattle.assembler.specs.Answers.{answer_view};
 ghost use Rattle.asm_numbers.specs.Numbers.{assembled_number};
 ghost use Rattle.rules.specs.Number.{upper};
 
-use assembler::Assembled;
+use assembler::Refusal;
 use host_numbers::UPPER;
 
 // The answers that name no line.
@@ -24,15 +24,15 @@ fn both(number: u32, value: u32) -> u64
 }
 
 // The number and the length or line of the assembler's answer.
-pub fn number_assembled(a: Assembled) -> u64
+pub fn number_assembled(a: Result<u32, Refusal>) -> u64
     ensures { result ≡ assembled_number (answer_view a) }
 {
     match a {
-        Assembled::Done(n) => both(0, n),
-        Assembled::LongText => both(OVER_LIMIT, 0),
-        Assembled::Faulty(f) => both(f.number, f.line),
-        Assembled::Incomplete => both(INCOMPLETE, 0),
-        Assembled::OverLimit => both(OVER_LIMIT, 0),
-        Assembled::ShortRoom => both(SHORT_TABLE, 0),
+        Ok(n) => both(0, n),
+        Err(Refusal::LongText) => both(OVER_LIMIT, 0),
+        Err(Refusal::Faulty(f)) => both(f.number, f.line),
+        Err(Refusal::Incomplete) => both(INCOMPLETE, 0),
+        Err(Refusal::OverLimit) => both(OVER_LIMIT, 0),
+        Err(Refusal::ShortRoom) => both(SHORT_TABLE, 0),
     }
 }

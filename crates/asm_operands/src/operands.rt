@@ -4,11 +4,10 @@ ghost use Rattle.base.specs.Lists.{◌at◌};
 ghost use Rattle.language.specs.Operand.{gives, indexed_by, operand_of, plain_by, resolved, signed_within, takes, term_by, then_both, then_value, unnamed};
 ghost use Rattle.ops.specs.Format.{value_kind};
 ghost use Rattle.asm_types.specs.Views.{form_view, outcome_view, symbols_in, term_view};
-ghost use Rattle.asm_symbols.specs.Symbolic.{Symbolic};
 ghost use Rattle.asm_values.specs.Read.{format_of};
 ghost use Rattle.asm_operands.specs.LineCard.{combined_by, line_card, star_of};
 
-use asm_symbols::meanings::meaning;
+use asm_symbols::list::SymbolList;
 use asm_types::{Displaced, Form, Given, Outcome, Term, Terms};
 use asm_values::formats::*;
 use asm_values::values::{
@@ -17,7 +16,7 @@ use asm_values::values::{
 };
 use ops::constants::Machine;
 use ops::format::*;
-use supplied::{Supplied, supplied_value};
+use supplied::supplied_value;
 
 // A kind and a register.
 fn gives_register(kind: u32, reg: u32) -> Outcome
@@ -85,27 +84,25 @@ fn both(minus: bool, first: Outcome, second: Outcome) -> Outcome
 }
 
 // A term of an EQU's sum or difference.
-fn term_by(syms: &[u64], n: usize, line: u32, t: Term) -> Outcome
-    requires { Symbolic syms.now n }
-    ensures { outcome_view result ≡ term_by (symbols_in syms.now n) line (term_view t) }
+fn term_by(symbols: &SymbolList<'_>, line: u32, t: Term) -> Outcome
+    ensures { outcome_view result ≡ term_by (symbols_in symbols.now.words.now symbols.now.n) line (term_view t) }
 {
     match t {
         Term::Constant(v) => value_within(Machine::CFP_M, v),
-        Term::Named(k) => equal_by(line, meaning(syms, n, k)),
+        Term::Named(k) => equal_by(line, symbols.meaning(k)),
     }
 }
 
 // A sum or a difference in an EQU.
-fn terms_by(syms: &[u64], n: usize, line: u32, minus: bool, p: Terms) -> Outcome
-    requires { Symbolic syms.now n }
-    ensures { outcome_view result ≡ then_both (term_by (symbols_in syms.now n) line (term_view p.first)) (term_by (symbols_in syms.now n) line (term_view p.second)) (combined_by minus) }
+fn terms_by(symbols: &SymbolList<'_>, line: u32, minus: bool, p: Terms) -> Outcome
+    ensures { outcome_view result ≡ then_both (term_by (symbols_in symbols.now.words.now symbols.now.n) line (term_view p.first)) (term_by (symbols_in symbols.now.words.now symbols.now.n) line (term_view p.second)) (combined_by minus) }
 {
     let first = p.first;
     let second = p.second;
     both(
         minus,
-        term_by(syms, n, line, first),
-        term_by(syms, n, line, second),
+        term_by(symbols, line, first),
+        term_by(symbols, line, second),
     )
 }
 
@@ -130,7 +127,7 @@ fn star_by(s: &[u8]) -> Outcome
         byte_at(s, 3),
         byte_at(s, 4),
     );
-    let Supplied::Value(v) = found else {
+    let Some(v) = found else {
         return Outcome::Unnamed;
     };
     value_of(v)
@@ -147,26 +144,24 @@ fn negative(v: u64) -> Outcome
 }
 
 // A number or a symbol that stands alone.
-fn plain_by(syms: &[u64], n: usize, format: u32, line: u32, s: &[u8], t: Term) -> Outcome
-    requires { Symbolic syms.now n }
-    ensures { outcome_view result ≡ plain_by (symbols_in syms.now n) (line_card line s.now) (format_of format) (term_view t) }
+fn plain_by(symbols: &SymbolList<'_>, format: u32, line: u32, s: &[u8], t: Term) -> Outcome
+    ensures { outcome_view result ≡ plain_by (symbols_in symbols.now.words.now symbols.now.n) (line_card line s.now) (format_of format) (term_view t) }
 {
     match t {
         Term::Constant(v) => value_within(largest(format), v),
-        Term::Named(k) => symbol_by(format, line, meaning(syms, n, k)),
+        Term::Named(k) => symbol_by(format, line, symbols.meaning(k)),
     }
 }
 
 // A number or a symbol before an index register.
-fn indexed_by(syms: &[u64], n: usize, d: Displaced) -> Outcome
-    requires { Symbolic syms.now n }
-    ensures { outcome_view result ≡ indexed_by (symbols_in syms.now n) (term_view d.term) d.reg }
+fn indexed_by(symbols: &SymbolList<'_>, d: Displaced) -> Outcome
+    ensures { outcome_view result ≡ indexed_by (symbols_in symbols.now.words.now symbols.now.n) (term_view d.term) d.reg }
 {
     let reg = d.reg;
     let t = d.term;
     match t {
         Term::Constant(v) => displaced_words(reg, v),
-        Term::Named(k) => displaced_by(reg, meaning(syms, n, k)),
+        Term::Named(k) => displaced_by(reg, symbols.meaning(k)),
     }
 }
 
@@ -203,25 +198,24 @@ fn takes(format: u32, form: Form) -> bool
 }
 
 // What a form gives in a format that takes it.
-fn resolved(form: Form, format: u32, line: u32, s: &[u8], syms: &[u64], n: usize) -> Outcome
-    requires { Symbolic syms.now n }
-    ensures { outcome_view result ≡ resolved (symbols_in syms.now n) (line_card line s.now) (format_of format) (form_view form) }
+fn resolved(form: Form, format: u32, line: u32, s: &[u8], symbols: &SymbolList<'_>) -> Outcome
+    ensures { outcome_view result ≡ resolved (symbols_in symbols.now.words.now symbols.now.n) (line_card line s.now) (format_of format) (form_view form) }
 {
     match form {
         Form::Formless => Outcome::Misfits,
         Form::Omitted => gives_register(NO_KIND, 0),
         Form::Star => star_by(s),
-        Form::Plain(t) => plain_by(syms, n, format, line, s, t),
+        Form::Plain(t) => plain_by(symbols, format, line, s, t),
         Form::Register(r) => gives_register(register_kind(r), r),
-        Form::Literal(k) => literal_by(meaning(syms, n, k)),
-        Form::Multiple(k) => multiple_by(meaning(syms, n, k)),
+        Form::Literal(k) => literal_by(symbols.meaning(k)),
+        Form::Multiple(k) => multiple_by(symbols.meaning(k)),
         Form::Indirect(r) => gives_register(INDIRECT_KIND, r),
         Form::Rising(r) => gives_register(RISING_KIND, r),
         Form::Falling(r) => gives_register(FALLING_KIND, r),
         Form::ProcedureType(b) => value_of(b),
-        Form::Indexed(d) => indexed_by(syms, n, d),
-        Form::Sum(p) => terms_by(syms, n, line, false, p),
-        Form::Difference(p) => terms_by(syms, n, line, true, p),
+        Form::Indexed(d) => indexed_by(symbols, d),
+        Form::Sum(p) => terms_by(symbols, line, false, p),
+        Form::Difference(p) => terms_by(symbols, line, true, p),
         Form::Positive(v) => value_within(Machine::CFP_M, v),
         Form::Negative(v) => negative(v),
         Form::Real => value_of(0),
@@ -229,12 +223,11 @@ fn resolved(form: Form, format: u32, line: u32, s: &[u8], syms: &[u64], n: usize
 }
 
 // What an operand's form gives in its format, on a line with its bytes, given the symbols.
-pub fn outcome(form: Form, format: u32, line: u32, s: &[u8], syms: &[u64], n: usize) -> Outcome
-    requires { Symbolic syms.now n }
-    ensures { outcome_view result ≡ operand_of (symbols_in syms.now n) (line_card line s.now) (format_of format) (form_view form) }
+pub fn outcome(form: Form, format: u32, line: u32, s: &[u8], symbols: &SymbolList<'_>) -> Outcome
+    ensures { outcome_view result ≡ operand_of (symbols_in symbols.now.words.now symbols.now.n) (line_card line s.now) (format_of format) (form_view form) }
 {
     if !takes(format, form) {
         return Outcome::Misfits;
     }
-    resolved(form, format, line, s, syms, n)
+    resolved(form, format, line, s, symbols)
 }

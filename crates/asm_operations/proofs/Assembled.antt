@@ -14,8 +14,7 @@ use Rattle.base.proofs.Bool.{and_l, and_r, ok-lt}
 use Rattle.ops.specs.Assembly.{assembly_cells}
 use Rattle.ops.specs.Distinct.{apart}
 use Rattle.ops.specs.Ops.{letter_of, letters_of, packed}
-use Rattle.ops.specs.declared.lookup.Lookup.{Lookup}
-use Rattle.ops.specs.declared.lookup.Lookup.TheVariants as found
+use Rattle.std.specs.Prelude.{Option, Some, None}
 use Rattle.ops.proofs.Apart.{by_mnemonic}
 use Rattle.ops.proofs.Every.{every, every-at}
 use Rattle.ops.proofs.First.{absent-at, cells_at, cells_count}
@@ -52,17 +51,17 @@ in-none k [] h = refl
 in-none k (b ∷ bs) h =
     rw (ne_eqb k (by_mnemonic b) (λ q. h 0 (omega arith) (sym q))) (in-none k bs (λ i g e. h (suc i) (omega arith) e))
 
-module _ (t : List (List ℕ)) (e : t ≡ map assembly_cells assemblies) (a b c : ℕ) (r : Lookup) (x : AnswersIn t a b c r) where
-  pub assembly-inside : (i : ℕ) → r ≡ found.Row i → i < 14
+module _ (t : List (List ℕ)) (e : t ≡ map assembly_cells assemblies) (a b c : ℕ) (r : Option ℕ) (x : AnswersIn t a b c r) where
+  pub assembly-inside : (i : ℕ) → r ≡ Some i → i < 14
   assembly-inside i q = rw (← cells_count assembly_cells assemblies t e) ((x.row i).0 q).0
 
-  pub assembly-found : (i : ℕ) → r ≡ found.Row i → assembles (assembly_at i) ≡ assembly_in (packed a b c) assemblies
+  pub assembly-found : (i : ℕ) → r ≡ Some i → assembles (assembly_at i) ≡ assembly_in (packed a b c) assemblies
   assembly-found i q =
       let l : i < length assemblies = assembly-inside i q in
       let w : HasLetters (assembly_cells (assembly_at i)) a b c = rw (← cells_at assembly_cells assemblies t e DTC i l) ((x.row i).0 q).1 in
       in-at (packed a b c) assemblies assemblies-apart i l (rw (w.first, w.second, w.third))
 
-  pub assembly-nowhere : b < 256 → c < 256 → r ≡ found.Unknown → unknown ≡ assembly_in (packed a b c) assemblies
+  pub assembly-nowhere : b < 256 → c < 256 → r ≡ None → unknown ≡ assembly_in (packed a b c) assemblies
   assembly-nowhere hb hc q =
       in-none (packed a b c) assemblies
       (λ i l k.

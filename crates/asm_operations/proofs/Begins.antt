@@ -13,8 +13,7 @@ use Rattle.base.proofs.Bool.{and_l, and_r, ok-le, ok-lt}
 use Rattle.ops.specs.Lookup.{no_row, row_at, row_of_letters}
 use Rattle.op_lookup.specs.Answers.{AnswersIn, HasLetters}
 use Rattle.ops.specs.Ops.{Row, cells_of, letter_of, letters_of, packed, rows}
-use Rattle.ops.specs.declared.lookup.Lookup.{Lookup}
-use Rattle.ops.specs.declared.lookup.Lookup.TheVariants as found
+use Rattle.std.specs.Prelude.{Option, Some, None}
 use Rattle.ops.proofs.Every.{every, every-at}
 use Rattle.ops.proofs.Rows.{letters-exactly, letters-unknown, packed-same, rows-count, table-count, table-row}
 use Rattle.asm_operations.specs.Codes.{begin, end}
@@ -30,25 +29,25 @@ unfolding rows begin end if Ok ◌and◌
 all-within = tt
 
 module _ (t : List (List ℕ)) (e : t ≡ map cells_of rows) (a b c from to : ℕ) (f : from ≡ begin a) (g : to ≡ end from) (h : from ≤ to)
-    (l : to ≤ 106) (r : Lookup) (x : AnswersIn (take (to - from) (drop from t)) a b c r) where
+    (l : to ≤ 106) (r : Option ℕ) (x : AnswersIn (take (to - from) (drop from t)) a b c r) where
   at_from : (i : ℕ) → from + i < to → get_or (take (to - from) (drop from t)) i [] ≡ cells_of (row_at (from + i))
   at_from i m = get_or-take (to - from) (drop from t) i [] (omega arith) ∙ get_or-drop from t i [] ∙ table-row t e (from + i) (omega arith)
 
   long-from : length (take (to - from) (drop from t)) ≡ to - from
   long-from = length-take-le (to - from) (drop from t) (omega (arith, h, l, length-drop from t, table-count t e))
 
-  before : (i : ℕ) → r ≡ found.Row i → from + i < to
+  before : (i : ℕ) → r ≡ Some i → from + i < to
   before i q = omega (arith, ((x.row i).0 q).0, long-from, h)
 
-  pub inside-from : (i : ℕ) → r ≡ found.Row i → from + i < 106
+  pub inside-from : (i : ℕ) → r ≡ Some i → from + i < 106
   inside-from i q = omega (arith, before i q, l)
 
-  pub row_from : (i : ℕ) → r ≡ found.Row i → found.Row (from + i) ≡ row_of_letters a b c
+  pub row_from : (i : ℕ) → r ≡ Some i → Some (from + i) ≡ row_of_letters a b c
   row_from i q =
       let w : HasLetters (cells_of (row_at (from + i))) a b c = rw (← at_from i (before i q)) ((x.row i).0 q).1 in
       sym ((letters-exactly a b c (from + i)).1 (rw rows-count (inside-from i q), rw (w.first, w.second, w.third)))
 
-  pub unknown-from : b < 256 → c < 256 → r ≡ found.Unknown → found.Unknown ≡ row_of_letters a b c
+  pub unknown-from : b < 256 → c < 256 → r ≡ None → None ≡ row_of_letters a b c
   unknown-from hb hc q =
       sym
       ((letters-unknown a b c).1

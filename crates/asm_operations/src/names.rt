@@ -12,7 +12,6 @@ use asm_text::{fields_of, is_empty, is_letter};
 use asm_types::Operation;
 use op_lookup::find_letters_in;
 use op_table::assembly::assemblies;
-use ops::lookup::Lookup;
 use ops::table::{CELLS, COUNT, Operations};
 
 // The assembly operation of three letters.
@@ -21,7 +20,7 @@ fn assembly_named(a: u8, b: u8, c: u8) -> Operation
 {
     let list = assemblies();
     let found = find_letters_in(&list, a, b, c);
-    let Lookup::Row(i) = found else {
+    let Some(i) = found else {
         return Operation::Unknown;
     };
     Operation::Assembles(i as u32)
@@ -54,7 +53,7 @@ fn ends(from: usize) -> usize
 }
 
 // The look-up by letters in the rows from one on and before another.
-fn find_within(rows: &[[u8; CELLS]], from: usize, to: usize, a: u8, b: u8, c: u8) -> Lookup
+fn find_within(rows: &[[u8; CELLS]], from: usize, to: usize, a: u8, b: u8, c: u8) -> Option<usize>
     requires { (from ≤ to) × (to ≤ length rows.now) }
     ensures { AnswersIn (take (to - from) (drop from rows.now)) a b c result }
 {
@@ -69,7 +68,7 @@ pub fn named(list: &Operations, a: u8, b: u8, c: u8) -> Operation
     let from = begins(a);
     let to = ends(from);
     let found = find_within(list, from, to, a, b, c);
-    let Lookup::Row(i) = found else {
+    let Some(i) = found else {
         return assembly_named(a, b, c);
     };
     let row = from + i;

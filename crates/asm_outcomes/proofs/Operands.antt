@@ -6,8 +6,6 @@ use mathlib.Core.Bool.{true, false}
 use mathlib.Core.List.{List, [], ◌∷◌, map}
 use native.Mathlib.Numerals.{add-one}
 use native.Mathlib.Omega.{arith}
-use borrow.Author.Tests.{le-ltb, ne_eqb}
-use lib.Dec.{eqb, ltb}
 use lib.ListN.{drop, drop_of_length-le, get_or, length}
 use lib.Seq.{drop-cons}
 use Rattle.base.specs.Test.{◌and◌}
@@ -16,12 +14,14 @@ use Rattle.language.specs.Operation.{DRC, formats_of, is_assembly}
 use Rattle.language.specs.Form.{Form, form_by, formless, written_forms}
 use Rattle.language.specs.Card.{Card}
 use Rattle.language.specs.Symbol.{Symbol}
-use Rattle.language.specs.Operand.{Outcome, awaits, gives, misfits, missing, operand_at, operand_of, operands_of, outcomes, unnamed}
+use Rattle.language.specs.Operand.{Outcome, gives, missing, operand_at, operand_of, operands_of, outcomes}
 use Rattle.asm_types.specs.Views.{cut_form}
 use Rattle.asm_values.specs.Read.{format_of}
 use Rattle.asm_operands.specs.LineCard.{line_card}
 use Rattle.asm_operands.proofs.ReadBack.{format_read, operand_read}
 use Rattle.asm_outcomes.specs.Tests.{all_by, test_by}
+use Rattle.asm_outcomes.specs.declared.Test.{Test}
+use Rattle.asm_outcomes.specs.declared.Test.TheVariants as test
 use Rattle.asm_outcomes.proofs.Written.{texts, written_at}
 
 module _ (all : List Symbol) (c : Card) where
@@ -84,45 +84,20 @@ module _ (all : List Symbol) (c : Card) where
           ∙ operand_read all c format (get_or (written_forms c.operation c.line) i formless) (format_read c.operation i h)
           ∙ sym (by_index (formats_of c.operation) (written_forms c.operation c.line) i h k)
 
--- a test of each kind of outcome
-pub given-passes : (t k r v : ℕ) → true ≡ test_by t (gives k r v)
-unfolding test_by
-given-passes zero k r v = refl
-given-passes (suc zero) k r v = refl
-given-passes (suc (suc t)) k r v = refl
-
-pub awaiting-passes : (t : ℕ) → ltb t 2 ≡ test_by t awaits
-unfolding test_by
-awaiting-passes zero = refl
-awaiting-passes (suc zero) = refl
-awaiting-passes (suc (suc t)) = le-ltb (suc (suc t)) 2 (omega arith)
-
-pub misfit-passes : (t : ℕ) → eqb t 1 ≡ test_by t misfits
-unfolding test_by
-misfit-passes zero = refl
-misfit-passes (suc zero) = refl
-misfit-passes (suc (suc t)) = ne_eqb (suc (suc t)) 1 (λ e. absurd (omega arith))
-
-pub unnamed-passes : (t : ℕ) → eqb t 0 ≡ test_by t unnamed
-unfolding test_by
-unnamed-passes zero = refl
-unnamed-passes (suc zero) = refl
-unnamed-passes (suc (suc t)) = ne_eqb (suc (suc t)) 0 (λ e. absurd (omega arith))
-
 -- a test of all operands, from one on
-all_none : (t : ℕ) → all_by t [] ≡ true
+all_none : (t : Test) → all_by t [] ≡ true
 unfolding all_by
-all_none zero = refl
-all_none (suc zero) = refl
-all_none (suc (suc t)) = refl
+all_none test.Fits = refl
+all_none test.Defined = refl
+all_none test.Given = refl
 
-all_first : (t : ℕ) (o : Outcome) (os : List Outcome) → all_by t (o ∷ os) ≡ (test_by t o and all_by t os)
+all_first : (t : Test) (o : Outcome) (os : List Outcome) → all_by t (o ∷ os) ≡ (test_by t o and all_by t os)
 unfolding all_by test_by
-all_first zero o os = refl
-all_first (suc zero) o os = refl
-all_first (suc (suc t)) o os = refl
+all_first test.Fits o os = refl
+all_first test.Defined o os = refl
+all_first test.Given o os = refl
 
-module _ (t : ℕ) (os : List Outcome) (i : ℕ) where
+module _ (t : Test) (os : List Outcome) (i : ℕ) where
   at-cons : i < length os → drop i os ≡ operand_at os i ∷ drop (i + 1) os
   at-cons h = let a : drop (i + 1) os ≡ drop (suc i) os = rw add-one refl in rw a (drop-cons os i (gives no_kind 0 0) h)
 

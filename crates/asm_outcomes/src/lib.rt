@@ -9,13 +9,13 @@ ghost use Rattle.language.specs.Form.{all_formed, form_by, formless, texts_in};
 ghost use Rattle.language.specs.Operand.{operand_at, outcomes, value_in};
 ghost use Rattle.language.specs.Fault.{all_defined, all_fit, all_given, first_name, form_name, forms_of, operands_formed, term_name};
 ghost use Rattle.asm_types.specs.Views.{card_view, cut_form, form_view, operation_view, outcome_view, symbols_in, term_view};
-ghost use Rattle.asm_symbols.specs.Symbolic.{Symbolic};
 ghost use Rattle.asm_outcomes.specs.Tests.{all_by, test_by};
 
 use asm_forms::texts::{all_formed, form_at, is_formless, text_count};
 use asm_operands::operands::outcome;
 use asm_operations::formats::{format_at, format_count, has_text};
 use asm_sections::codes::is_assembly;
+use asm_symbols::list::SymbolList;
 use asm_text::fields_of;
 use asm_types::{Assembly, Card, Form, Given, Operation, Outcome, Term};
 use asm_values::formats::missing;
@@ -135,9 +135,15 @@ pub fn first_name(list: &Operations, c: Card, s: &[u8]) -> u64
 }
 
 // What operand i of a card gives: nothing past its last format.
-pub fn outcome_at(list: &Operations, c: Card, s: &[u8], syms: &[u64], n: usize, i: usize) -> Outcome
-    requires { (list.now ≡ map cells_of rows) × Symbolic syms.now n }
-    ensures { outcome_view result ≡ operand_at (outcomes (symbols_in syms.now n) (card_view c s.now)) i }
+pub fn outcome_at(
+    list: &Operations,
+    c: Card,
+    s: &[u8],
+    symbols: &SymbolList<'_>,
+    i: usize,
+) -> Outcome
+    requires { list.now ≡ map cells_of rows }
+    ensures { outcome_view result ≡ operand_at (outcomes (symbols_in symbols.now.words.now symbols.now.n) (card_view c s.now)) i }
 {
     let o = c.operation;
     let format = format_at(list, o, i);
@@ -152,7 +158,7 @@ pub fn outcome_at(list: &Operations, c: Card, s: &[u8], syms: &[u64], n: usize, 
         return missing(format);
     }
     let line = c.spot.line;
-    outcome(field_form(o, s, i), format, line, s, syms, n)
+    outcome(field_form(o, s, i), format, line, s, symbols)
 }
 
 // The value that an outcome gives, 0 where it gives none.
@@ -168,68 +174,66 @@ pub fn value_in(o: Outcome) -> u32
 }
 
 // The value of operand i.
-pub fn value_at(list: &Operations, c: Card, s: &[u8], syms: &[u64], n: usize, i: usize) -> u32
-    requires { (list.now ≡ map cells_of rows) × Symbolic syms.now n }
-    ensures { result ≡ value_in (operand_at (outcomes (symbols_in syms.now n) (card_view c s.now)) i) }
+pub fn value_at(list: &Operations, c: Card, s: &[u8], symbols: &SymbolList<'_>, i: usize) -> u32
+    requires { list.now ≡ map cells_of rows }
+    ensures { result ≡ value_in (operand_at (outcomes (symbols_in symbols.now.words.now symbols.now.n) (card_view c s.now)) i) }
 {
-    value_in(outcome_at(list, c, s, syms, n, i))
+    value_in(outcome_at(list, c, s, symbols, i))
 }
 
 // The tests of an outcome: no misfit, no undefined symbol, all given.
-const FITS: u32 = 0;
+#[derive(Clone, Copy)]
+enum Test {
+    Fits,
+    Defined,
+    Given,
+}
 
-const DEFINED: u32 = 1;
-
-const GIVEN: u32 = 2;
-
-fn passes(test: u32, o: Outcome) -> bool
+fn passes(test: Test, o: Outcome) -> bool
     ensures { result ≡ test_by test (outcome_view o) }
 {
-    match o {
-        Outcome::Gives(_) => true,
-        Outcome::Awaits => test < GIVEN,
-        Outcome::Misfits => test == DEFINED,
-        Outcome::Unnamed => test == FITS,
+    match test {
+        Test::Fits => !matches!(o, Outcome::Misfits),
+        Test::Defined => !matches!(o, Outcome::Unnamed),
+        Test::Given => matches!(o, Outcome::Gives(_)),
     }
 }
 
 // Every operand of a card passes a test.
-fn all_pass(list: &Operations, c: Card, s: &[u8], syms: &[u64], n: usize, test: u32) -> bool
-    requires { (list.now ≡ map cells_of rows) × Symbolic syms.now n }
-    ensures { result ≡ all_by test (outcomes (symbols_in syms.now n) (card_view c s.now)) }
+fn all_pass(list: &Operations, c: Card, s: &[u8], symbols: &SymbolList<'_>, test: Test) -> bool
+    requires { list.now ≡ map cells_of rows }
+    ensures { result ≡ all_by test (outcomes (symbols_in symbols.now.words.now symbols.now.n) (card_view c s.now)) }
 {
     let o = c.operation;
     let count = format_count(list, o);
-    let mut i: usize = 0;
-    while i < count {
-        if !passes(test, outcome_at(list, c, s, syms, n, i)) {
+    for i in 0..count {
+        if !passes(test, outcome_at(list, c, s, symbols, i)) {
             return false;
         }
-        i += 1;
     }
     true
 }
 
 // No operand is a misfit [S 4].
-pub fn all_fit(list: &Operations, c: Card, s: &[u8], syms: &[u64], n: usize) -> bool
-    requires { (list.now ≡ map cells_of rows) × Symbolic syms.now n }
-    ensures { result ≡ all_fit (outcomes (symbols_in syms.now n) (card_view c s.now)) }
+pub fn all_fit(list: &Operations, c: Card, s: &[u8], symbols: &SymbolList<'_>) -> bool
+    requires { list.now ≡ map cells_of rows }
+    ensures { result ≡ all_fit (outcomes (symbols_in symbols.now.words.now symbols.now.n) (card_view c s.now)) }
 {
-    all_pass(list, c, s, syms, n, FITS)
+    all_pass(list, c, s, symbols, Test::Fits)
 }
 
 // Every symbol of the operands is defined [S 5].
-pub fn all_defined(list: &Operations, c: Card, s: &[u8], syms: &[u64], n: usize) -> bool
-    requires { (list.now ≡ map cells_of rows) × Symbolic syms.now n }
-    ensures { result ≡ all_defined (outcomes (symbols_in syms.now n) (card_view c s.now)) }
+pub fn all_defined(list: &Operations, c: Card, s: &[u8], symbols: &SymbolList<'_>) -> bool
+    requires { list.now ≡ map cells_of rows }
+    ensures { result ≡ all_defined (outcomes (symbols_in symbols.now.words.now symbols.now.n) (card_view c s.now)) }
 {
-    all_pass(list, c, s, syms, n, DEFINED)
+    all_pass(list, c, s, symbols, Test::Defined)
 }
 
 // Every operand gives its fields.
-pub fn all_given(list: &Operations, c: Card, s: &[u8], syms: &[u64], n: usize) -> bool
-    requires { (list.now ≡ map cells_of rows) × Symbolic syms.now n }
-    ensures { result ≡ all_given (outcomes (symbols_in syms.now n) (card_view c s.now)) }
+pub fn all_given(list: &Operations, c: Card, s: &[u8], symbols: &SymbolList<'_>) -> bool
+    requires { list.now ≡ map cells_of rows }
+    ensures { result ≡ all_given (outcomes (symbols_in symbols.now.words.now symbols.now.n) (card_view c s.now)) }
 {
-    all_pass(list, c, s, syms, n, GIVEN)
+    all_pass(list, c, s, symbols, Test::Given)
 }

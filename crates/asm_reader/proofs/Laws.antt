@@ -4,6 +4,7 @@ use Prim.Native.Nat.{ℕ, ◌+◌, ◌-◌, ◌<◌, ◌≤◌}
 use mathlib.Core.Path.{◌≡◌, refl, sym, ap, ◌∙◌}
 use mathlib.Core.Bool.{Bool, true, false}
 use mathlib.Core.List.{List, [], ◌∷◌}
+use Rattle.std.specs.Prelude.{Option, Some, None}
 use native.Mathlib.Omega.{arith}
 use borrow.Author.Tests.{le-ltb, lt-ltb, ltb-false, ltb-true}
 use lib.Dec.{ltb}
@@ -14,8 +15,17 @@ use Rattle.language.specs.Text.{lines, span}
 use Rattle.language.specs.Card.{Reader, card_of, walk}
 use Rattle.language.proofs.Laws.{in_line, lines_at, span-le, walk_at}
 use Rattle.language.proofs.Places.{behind}
-use Rattle.asm_reader.specs.declared.Step.TheVariants.{Line, End}
-use Rattle.asm_reader.specs.Line.{first_line, line_behind, line_end, other_lines, step_at, step_from}
+use Rattle.asm_reader.specs.declared.Line.{Line}
+use Rattle.asm_reader.specs.Line.{bounds, first_line, line_behind, line_end, other_lines, step_at, step_from}
+
+-- the places of a line's bounds
+abbrev pub start_in : Option Line → ℕ
+start_in None = 0
+start_in (Some l) = l.start
+
+abbrev pub end_in : Option Line → ℕ
+end_in None = 0
+end_in (Some l) = l.end
 
 -- past the text no line is left
 module _ (s : List ℕ) (i : ℕ) (h : length s ≤ i) where
@@ -23,7 +33,7 @@ module _ (s : List ℕ) (i : ℕ) (h : length s ≤ i) where
   unfolding lines
   none_left = let d : drop i s ≡ [] = drop_of_length-le s {i = i} h in rw d refl
 
-  pub step-out : End ≡ step_at s i
+  pub step-out : None ≡ step_at s i
   unfolding step_at
   step-out = rw none_left refl
 
@@ -42,11 +52,11 @@ module _ (s : List ℕ) (i e : ℕ) (h : i < length s) (q : e ≡ i + span in_li
   pub line-long : length (take (e - i) (drop i s)) ≡ e - i
   line-long = length-take-le (e - i) (drop i s) (omega (arith, scan-le, length-drop i s))
 
-  pub step_line : Line i e ≡ step_at s i
+  pub step_line : bounds i e ≡ step_at s i
   unfolding step_at
   step_line =
       let m : e ≡ i + length (take (e - i) (drop i s)) = omega (arith, line-long) in
-      ap (Line i) m ∙ ap (step_from i) (sym (lines_at s i e h q))
+      ap (bounds i) m ∙ ap (step_from i) (sym (lines_at s i e h q))
 
   pub end_line : e ≡ line_end s i
   end_line =
@@ -63,19 +73,19 @@ module _ (s : List ℕ) (i e : ℕ) (h : i < length s) (q : e ≡ i + span in_li
 
 -- what a step says of the line's end
 module _ (s : List ℕ) (i : ℕ) where
-  pub end-stepped : (a e : ℕ) → step_at s i ≡ Line a e → e ≡ line_end s i
+  pub end-stepped : (a e : ℕ) → step_at s i ≡ bounds a e → e ≡ line_end s i
   unfolding step_at
   end-stepped a e = go (lines (drop i s))
     where
-      go : (ls : List (List ℕ)) → step_from i ls ≡ Line a e → e ≡ i + length (first_line ls)
+      go : (ls : List (List ℕ)) → step_from i ls ≡ bounds a e → e ≡ i + length (first_line ls)
       go [] p = cc
-      go (l ∷ ls) p = cc
+      go (l ∷ ls) p = sym (ap end_in p)
 
-  pub end_none : step_at s i ≡ End → i ≡ line_end s i
+  pub end_none : step_at s i ≡ None → i ≡ line_end s i
   unfolding step_at
   end_none = go (lines (drop i s))
     where
-      go : (ls : List (List ℕ)) → step_from i ls ≡ End → i ≡ i + length (first_line ls)
+      go : (ls : List (List ℕ)) → step_from i ls ≡ None → i ≡ i + length (first_line ls)
       go [] p = omega arith
       go (l ∷ ls) p = cc
 
@@ -114,13 +124,13 @@ walk-line r s i e h q = walk_at r s i e h (q ∙ sym (end_line s i (i + span in_
 
 -- one line of a walk from line to line: a step that is a line lies in the text and moves on in it, and one line less is left; at the end none is
 module _ (s : List ℕ) (i : ℕ) where
-  pub step-inside : (a e : ℕ) → step_at s i ≡ Line a e → i < length s
+  pub step-inside : (a e : ℕ) → step_at s i ≡ bounds a e → i < length s
   step-inside a e p = go (ltb i (length s)) refl
     where
       go : (t : Bool) → ltb i (length s) ≡ t → i < length s
       go true q = ltb-true i (length s) q
       go false q =
-          let o : End ≡ step_at s i = step-out s i (ltb-false i (length s) q) in
+          let o : None ≡ step_at s i = step-out s i (ltb-false i (length s) q) in
           let z : ◌≡◌ {A = ℕ} 0 1 = cc in
           omega arith
 
@@ -140,18 +150,18 @@ module _ (s : List ℕ) (i : ℕ) where
           let m = behind-last s i e h refl o in
           (omega (arith, m, o, h), omega (arith, m, scan-le s i e h refl))
 
-  pub lines_more : (a e : ℕ) → step_at s i ≡ Line a e → length (lines (drop i s)) ≡ 1 + length (lines (drop (line_behind s i) s))
+  pub lines_more : (a e : ℕ) → step_at s i ≡ bounds a e → length (lines (drop i s)) ≡ 1 + length (lines (drop (line_behind s i) s))
   unfolding step_at
   lines_more a e p = rw (lines-behind s i) (go (lines (drop i s)) p)
     where
-      go : (ls : List (List ℕ)) → step_from i ls ≡ Line a e → length ls ≡ 1 + length (other_lines ls)
+      go : (ls : List (List ℕ)) → step_from i ls ≡ bounds a e → length ls ≡ 1 + length (other_lines ls)
       go [] q = cc
       go (l ∷ ls) q = omega arith
 
-  pub lines_none : step_at s i ≡ End → length (lines (drop i s)) ≡ 0
+  pub lines_none : step_at s i ≡ None → length (lines (drop i s)) ≡ 0
   unfolding step_at
   lines_none p = go (lines (drop i s)) p
     where
-      go : (ls : List (List ℕ)) → step_from i ls ≡ End → length ls ≡ 0
+      go : (ls : List (List ℕ)) → step_from i ls ≡ None → length ls ≡ 0
       go [] q = refl
       go (l ∷ ls) q = cc

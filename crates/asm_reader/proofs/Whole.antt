@@ -4,15 +4,15 @@ use Prim.Native.Nat.{ℕ, ◌+◌, ◌-◌, ◌<◌}
 use mathlib.Core.Path.{◌≡◌, refl, sym, ap, ◌∙◌}
 use mathlib.Core.Bool.{Bool, true, false}
 use mathlib.Core.List.{List, [], ◌∷◌}
+use Rattle.std.specs.Prelude.{None}
 use native.Mathlib.Omega.{arith}
 use borrow.Author.Tests.{ltb-false, ltb-true}
 use lib.Dec.{ltb}
 use lib.ListN.{drop, length, take}
 use Rattle.language.specs.Text.{lines, span}
 use Rattle.language.proofs.Laws.{in_line, lines_at}
-use Rattle.asm_reader.specs.declared.Step.TheVariants.{Line, End}
-use Rattle.asm_reader.specs.Line.{Reads, ended, line, first_line, line_behind, other_lines, step_at, step_from}
-use Rattle.asm_reader.proofs.Laws.{line-long, lines-behind, none_left}
+use Rattle.asm_reader.specs.Line.{Reads, bounds, ended, line, first_line, line_behind, other_lines, step_at, step_from}
+use Rattle.asm_reader.proofs.Laws.{end_in, line-long, lines-behind, none_left, start_in}
 
 -- the first of the lines left is the bytes from the place to its end
 first-bytes : (s : List ℕ) (i : ℕ) (l : List ℕ) (ls : List (List ℕ)) → lines (drop i s) ≡ l ∷ ls → take (i + length l - i) (drop i s) ≡ l
@@ -47,16 +47,16 @@ pub reads_only : {s : List ℕ} {i : ℕ} {ls : List (List ℕ)} → Reads s i l
 unfolding step_at
 reads_only (ended {s} {i} p) = go (lines (drop i s)) p
   where
-    go : (ks : List (List ℕ)) → step_from i ks ≡ End → [] ≡ ks
+    go : (ks : List (List ℕ)) → step_from i ks ≡ None → [] ≡ ks
     go [] q = refl
     go (k ∷ ks) q = cc
 reads_only (line {s} {i} {a} {e} {ls} p r) = go (lines (drop i s)) refl p (reads_only r)
   where
-    go : (ks : List (List ℕ)) → lines (drop i s) ≡ ks → step_from i ks ≡ Line a e → ls ≡ lines (drop (line_behind s i) s) → take (e - a) (drop a s) ∷ ls ≡ ks
+    go : (ks : List (List ℕ)) → lines (drop i s) ≡ ks → step_from i ks ≡ bounds a e → ls ≡ lines (drop (line_behind s i) s) → take (e - a) (drop a s) ∷ ls ≡ ks
     go [] q f o = cc
     go (k ∷ ks) q f o =
-        let first : a ≡ i = cc in
-        let last : e ≡ i + length k = cc in
+        let first : a ≡ i = sym (ap start_in f) in
+        let last : e ≡ i + length k = sym (ap end_in f) in
         let l : take (e - a) (drop a s) ≡ k = rw (first, last) (first-bytes s i k ks q) in
         let rest : ls ≡ ks = o ∙ (lines-behind s i ∙ ap other_lines q) in
         cc

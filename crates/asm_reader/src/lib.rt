@@ -15,22 +15,22 @@ pub struct CardReader<'a> {
     pub at: usize,
 }
 
-// What comes next: a line from `start` up to `end`, or the end of the text.
+// A line's bounds: from `start` up to `end`.
 #[derive(Clone, Copy)]
-pub enum Step {
-    Line { start: usize, end: usize },
-    End,
+pub struct Line {
+    pub start: usize,
+    pub end: usize,
 }
 
-// The line that begins at a place of a text.
-fn step_at(text: &[u8], at: usize) -> Step
+// The line that begins at a place of a text; none at its end.
+fn step_at(text: &[u8], at: usize) -> Option<Line>
     ensures { result ≡ step_at text.now at }
 {
     if at < text.len() {
         let end = find_byte(text, at, NEWLINE);
-        Step::Line { start: at, end }
+        Some(Line { start: at, end })
     } else {
-        Step::End
+        None
     }
 }
 
@@ -54,7 +54,7 @@ impl<'a> CardReader<'a> {
     }
 
     // The line that begins at the reader's place.
-    pub fn next(self) -> Step
+    pub fn next(self) -> Option<Line>
         ensures { result ≡ step_at self.entry.text.now self.entry.at }
     {
         step_at(self.text, self.at)
@@ -80,7 +80,7 @@ impl<'a> CardReader<'a> {
 }
 
 // The line that begins at a place of a text, as a reader there gives it.
-pub fn line_at(text: &[u8], at: usize) -> Step
+pub fn line_at(text: &[u8], at: usize) -> Option<Line>
     ensures { result ≡ step_at text.now at }
 {
     CardReader::new(text, at).next()
@@ -99,7 +99,7 @@ pub fn line_end(text: &[u8], at: usize) -> usize
     ensures { (result ≡ line_end text.now at) × (result ≤ length text.now) }
 {
     match line_at(text, at) {
-        Step::Line { start: _, end } => end,
-        Step::End => at,
+        Some(line) => line.end,
+        None => at,
     }
 }

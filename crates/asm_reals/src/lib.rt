@@ -9,7 +9,6 @@ ghost use Rattle.asm_reals.specs.Views.{decimal_view};
 
 use asm_names::number_of;
 use asm_text::find_byte;
-use asm_types::Parsed;
 
 // Digits before the point, and after it.
 const MAX_BEFORE: usize = 9;
@@ -22,11 +21,12 @@ const POWERS: [u64; 7] = [1, 10, 100, 1000, 10000, 100000, 1000000];
 // A word's values.
 const SPAN: u64 = 1 << 32;
 
-// What a text says: negative or not, the whole number of all digits, and how many of them stand after the point; or it has another form.
+// What a text of the form says: negative or not, the whole number of all digits, and how many of them stand after the point.
 #[derive(Clone, Copy)]
-pub enum Decimal {
-    Written(bool, u64, usize),
-    Malformed,
+pub struct Decimal {
+    pub negative: bool,
+    pub number: u64,
+    pub after: usize,
 }
 
 // Ten to the power k.
@@ -38,47 +38,45 @@ fn power(k: usize) -> u64
 }
 
 // Digits, maybe none, cut off at the largest word.
-fn digits(s: &[u8]) -> Parsed
+fn digits(s: &[u8]) -> Option<u64>
     ensures { parsed_view result ≡ cut_parsed (Decimals.digits s.now) }
 {
     if s.len() == 0 {
-        return Parsed::Is(0);
+        return Some(0);
     }
     number_of(s)
 }
 
 // A text without its sign.
-fn pointed(negative: bool, t: &[u8]) -> Decimal
+fn pointed(negative: bool, t: &[u8]) -> Option<Decimal>
     ensures { decimal_view result ≡ Decimals.pointed negative t.now }
 {
     let i = find_byte(t, 0, b'.');
     if i == t.len() {
-        return Decimal::Malformed;
+        return None;
     }
     if MAX_BEFORE < i {
-        return Decimal::Malformed;
+        return None;
     }
     let k = t.len() - (i + 1);
     if MAX_AFTER < k {
-        return Decimal::Malformed;
+        return None;
     }
-    let before = number_of(&t[..i]);
-    let Parsed::Is(a) = before else {
-        return Decimal::Malformed;
-    };
-    let after = digits(&t[i + 1..]);
-    let Parsed::Is(b) = after else {
-        return Decimal::Malformed;
-    };
-    Decimal::Written(negative, a * power(k) + b, k)
+    let a = number_of(&t[..i])?;
+    let b = digits(&t[i + 1..])?;
+    Some(Decimal {
+        negative,
+        number: a * power(k) + b,
+        after: k,
+    })
 }
 
 // The real number that a text writes.
-pub fn decimal_of(s: &[u8]) -> Decimal
+pub fn decimal_of(s: &[u8]) -> Option<Decimal>
     ensures { decimal_view result ≡ Decimals.decimal_of s.now }
 {
     if s.len() == 0 {
-        return Decimal::Malformed;
+        return None;
     }
     if s[0] == b'-' {
         return pointed(true, &s[1..]);
@@ -107,11 +105,10 @@ fn value(negative: bool, n: u64, k: usize) -> f64
 pub fn words_of(s: &[u8]) -> [u32; 2]
     ensures { result ≡ Decimals.real_words (Decimals.decimal_of s.now) }
 {
-    let d = decimal_of(s);
-    let Decimal::Written(negative, n, k) = d else {
+    let Some(d) = decimal_of(s) else {
         return [0, 0];
     };
-    let bits = f64::to_bits(value(negative, n, k));
+    let bits = f64::to_bits(value(d.negative, d.number, d.after));
     let low = (bits % SPAN) as u32;
     let high = (bits / SPAN) as u32;
     [low, high]

@@ -6,7 +6,7 @@ ghost use Rattle.asm_sections.specs.Codes.{assembly_code, code_of};
 
 use asm_types::{Assembly, Operation};
 
-// The codes past those of the assembly operations.
+// The codes past those of the assembly operations. Numbers, as asm_types has those: an enum was tried, and the proofs of the tests did not close.
 pub const EMPTY: u32 = 14;
 
 pub const MALFORMED: u32 = 15;

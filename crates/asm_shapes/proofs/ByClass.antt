@@ -19,7 +19,7 @@ use Rattle.rules.specs.Number.{bad_list, bad_operand}
 use Rattle.rules.specs.Table.{body_at, callee, class_at, declared, field, names_procedure, size, value}
 use Rattle.bodies.proofs.Places.{class-past}
 use Rattle.shape_core.specs.Counted.{exits_of}
-use Rattle.shape_core.specs.declared.exits.Exits.TheVariants as exits
+use Rattle.std.specs.Prelude.{Some, None}
 use Rattle.shape_core.proofs.Codes.{code_same, is_code}
 use Rattle.shape_core.proofs.Lists.{callee_named, callee-unnamed, names-place, other_place}
 use Rattle.shape_core.proofs.Tests.{and_no, and_none, and_yes, not-no, not_yes, or_no, or_yes}
@@ -56,11 +56,11 @@ list-long t p (suc k) h = pair-first bad_list _ _ (and_no _ _ (exits-long t k (s
 
 -- the JSR at p
 module _ (t : List ℕ) (p : ℕ) where
-  pub jsr-unnamed : exits_of t (callee t p) ≡ exits.Unnamed → 4 ≡ faults_in (flow_rules t p JSR)
+  pub jsr-unnamed : exits_of t (callee t p) ≡ None → 4 ≡ faults_in (flow_rules t p JSR)
   jsr-unnamed e =
       sym (if_no _ _ _ (callee-unnamed t (callee t p) e) ∙ operand-least (list_rules t p (parsed (declared t (callee t p)))))
 
-  pub jsr-named : (k : ℕ) → exits_of t (callee t p) ≡ exits.Count k → faults_in (list_rules t p (parsed k)) ≡ faults_in (flow_rules t p JSR)
+  pub jsr-named : (k : ℕ) → exits_of t (callee t p) ≡ Some k → faults_in (list_rules t p (parsed k)) ≡ faults_in (flow_rules t p JSR)
   jsr-named k e =
       let n = callee_named t (callee t p) k e in
       ap (λ (x : ℕ). faults_in (list_rules t p (parsed x))) (sym n.1) ∙ sym (if_yes _ _ _ n.0)

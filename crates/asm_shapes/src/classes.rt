@@ -11,7 +11,6 @@ use entries::fields::row_at;
 use op_lookup::cells;
 use op_lookup::numbers::NumberIndex;
 use ops::class::NO_CLASS;
-use ops::lookup::Lookup;
 use ops::table::Operations;
 
 // The class of the entry at p.
@@ -19,8 +18,7 @@ fn class_of(table: &[u32], list: &Operations, numbers: &NumberIndex, p: usize) -
     requires { Laid table.now × (list.now ≡ map cells_of rows) × (p < get_or table.now 0 0) × IndexOf numbers.now }
     ensures { result ≡ class_code (class_at table.now p) }
 {
-    let found = row_at(table, numbers, p);
-    let Lookup::Row(i) = found else {
+    let Some(i) = row_at(table, numbers, p) else {
         return NO_CLASS;
     };
     cells::class_of(&list[i])
@@ -37,10 +35,8 @@ pub fn classes_of(
     requires { Laid table.now × (list.now ≡ map cells_of rows) × (n ≡ get_or table.now 0 0) × (n < length classes.old) × IndexOf numbers.now }
     ensures { ClassesOf table.now classes.new }
 {
-    let mut p: usize = 0;
-    while p < n {
+    for p in 0..n {
         classes[p] = class_of(table, list, numbers, p);
-        p += 1;
     }
     classes[n] = NO_CLASS;
 }

@@ -1,10 +1,8 @@
 -- What is known of the words that hold the symbols, and of a meaning that they give: sorts by their numbers, values within limits.
 -- Assumes nothing.
-use Rattle.std.specs.Prelude.{ℕ, ◌+◌, ◌*◌, ◌<◌, ◌≤◌, ◌≡◌, List, [], ◌∷◌, ◌++◌, length, get_or}
+use Rattle.std.specs.Prelude.{ℕ, ◌+◌, ◌*◌, ◌<◌, ◌≤◌, ◌≡◌, List, [], ◌∷◌, ◌++◌, length, get_or, Option, Some, None}
 use Rattle.language.specs.Symbol.{Symbol}
 use Rattle.asm_types.specs.Views.{most_word, sort_at, symbols_in}
-use Rattle.asm_types.specs.declared.Parsed.{Parsed}
-use Rattle.asm_types.specs.declared.Parsed.TheVariants.{Is, Not}
 use Rattle.asm_types.specs.declared.Meaning.{Meaning}
 use Rattle.asm_types.specs.declared.Meaning.TheVariants as meaning
 
@@ -35,9 +33,9 @@ Fits (meaning.ValueOf e) = e.value ≤ most_word
 Fits (meaning.PlaceOf p) = (p.sort ≤ last_sort) × (p.place ≤ most_places)
 Fits (meaning.Lacking p) = p.sort ≤ last_sort
 
-abbrev pub FitsCount : Parsed → Type 0
-FitsCount (Is n) = n ≤ most_word
-FitsCount Not = Unit {0}
+abbrev pub FitsCount : Option ℕ → Type 0
+FitsCount (Some n) = n ≤ most_word
+FitsCount None = Unit {0}
 
 abbrev pub symbol_of : ℕ → ℕ → ℕ → ℕ → ℕ → Symbol
 symbol_of k l a v t = record { name = k; line = l; sort = sort_at a; value = v; letter = t }

@@ -2,5 +2,6 @@
 #![tactic(auto)]
 
 pub mod fields;
+pub mod list;
 pub mod meanings;
 pub mod uses;

@@ -11,7 +11,7 @@ use asm_types::{Given, Outcome, Term};
 use ops::constants::Machine;
 use ops::format::*;
 
-// The tags.
+// The tags, read from the words of the operation table: numbers, since an enum would name each of them once more in its match.
 pub const OPV_TAG: u32 = OPV / TAG;
 
 pub const OPN_TAG: u32 = OPN / TAG;

@@ -7,60 +7,60 @@ use mathlib.Core.List.{List, ◌++◌}
 use borrow.Author.Tests.{le-leb, lt-leb}
 use lib.Dec.{leb}
 use lib.ListN.{drop, length}
-use Rattle.base.specs.Test.{◌and◌, if}
+use Rattle.std.specs.Prelude.{Result, Ok, Err}
+use Rattle.base.specs.Test.{◌and◌}
 use Rattle.rules.specs.Check.{sections_ok}
 use Rattle.base.proofs.Bool.{if_no, if_yes}
 use Rattle.language.specs.Text.{max_bytes}
 use Rattle.language.specs.Card.{cards_of}
 use Rattle.language.specs.Symbol.{all_placed}
 use Rattle.language.specs.Fault.{Deck, deck_of}
-use Rattle.language.specs.Answer.{Answer, Refusal, answer_of, assembled, faulty, finished, incomplete, is_complete, is_within, judged, left_by, left_of, limits_kept, long_text, over_limit, refused, short_room}
-use Rattle.assembler.specs.Answers.{Answers, answer_view}
+use Rattle.language.specs.Answer.{Answer, answer_of, assembled, finished, is_complete, is_within, judged, left_by, left_of, limits_kept, long_text, refused}
+use Rattle.assembler.specs.Answers.{Answers, answer_view, refusal_view}
 use Rattle.asm_types.specs.Views.{symbols_in}
 use Rattle.asm_collect.specs.declared.Collected.{Collected}
 use Rattle.asm_answers.specs.Room.{Placed}
-use Rattle.assembler.specs.Judges.{FirstFault, Prepared, deck_from, fault_in}
+use Rattle.assembler.specs.Judges.{FirstFault, Prepared, deck_from}
 use Rattle.assembler.proofs.Tables.{complete-is, deck-is, within-is}
-use Rattle.assembler.specs.declared.Fault.{Fault}
-use Rattle.assembler.specs.declared.Assembled.{Assembled}
-use Rattle.assembler.specs.declared.Assembled.TheVariants.{Done, LongText, Faulty, Incomplete, OverLimit, ShortRoom}
-use Rattle.asm_answers.specs.declared.verdict.Verdict.{Verdict}
-use Rattle.asm_answers.specs.declared.verdict.Verdict.TheVariants.{Clear, Broken}
+use Rattle.assembler.specs.declared.Refusal.{Refusal as Refused}
+use Rattle.assembler.specs.declared.Refusal.TheVariants.{LongText, Faulty, Incomplete, OverLimit, ShortRoom}
+use Rattle.asm_answers.specs.Verdicts.{Verdict}
+use Rattle.asm_answers.specs.declared.verdict.Fault.{Fault}
 
 module _ (d : Deck) (old : List ℕ) where
   -- a refusal leaves all as it was
-  refuses : (r : Assembled) (x : Refusal) → answer_view r ≡ refused x → judged d (length old) ≡ refused x → Answers d r old old
-  refuses r x e j = record { answered = e ∙ sym j; left = sym (ap (λ (a : Answer). left_by a d.table old) j) }
+  refuses : (r : Refused) → judged d (length old) ≡ refused (refusal_view r) → Answers d (Err r) old old
+  refuses r j = record { answered = sym j; left = sym (ap (λ (a : Answer). left_by a d.table old) j) }
 
   abbrev ending : Answer
   ending = finished (is_complete d) (limits_kept d) (length d.table) (length old)
 
-  pub faulty-answers : (f : Fault) → FirstFault d d.cards (Broken f.number f.line) → Answers d (Faulty f) old old
+  pub faulty-answers : (f : Fault) → FirstFault d d.cards (Err f) → Answers d (Err (Faulty f)) old old
   unfolding judged
-  faulty-answers f v = refuses (Faulty f) (faulty f.number f.line) refl (sym (v ending))
+  faulty-answers f v = refuses (Faulty f) (sym (v ending))
 
   -- no line has a fault
-  module _ (v : FirstFault d d.cards Clear) where
+  module _ (v : FirstFault d d.cards (Ok tt)) where
     ends : judged d (length old) ≡ ending
     unfolding judged
     ends = sym (v ending)
 
-    pub incomplete-answers : is_complete d ≡ false → Answers d Incomplete old old
+    pub incomplete-answers : is_complete d ≡ false → Answers d (Err Incomplete) old old
     unfolding finished
-    incomplete-answers e = refuses Incomplete incomplete refl (ends ∙ if_no _ _ _ e)
+    incomplete-answers e = refuses Incomplete (ends ∙ if_no _ _ _ e)
 
     module _ (complete : is_complete d ≡ true) where
-      pub over-answers : limits_kept d ≡ false → Answers d OverLimit old old
+      pub over-answers : limits_kept d ≡ false → Answers d (Err OverLimit) old old
       unfolding finished
-      over-answers e = refuses OverLimit over_limit refl (ends ∙ if_yes _ _ _ complete ∙ if_no _ _ _ e)
+      over-answers e = refuses OverLimit (ends ∙ if_yes _ _ _ complete ∙ if_no _ _ _ e)
 
       module _ (within : limits_kept d ≡ true) where
-        pub short-answers : leb (length d.table) (length old) ≡ false → Answers d ShortRoom old old
+        pub short-answers : leb (length d.table) (length old) ≡ false → Answers d (Err ShortRoom) old old
         unfolding finished
-        short-answers h = refuses ShortRoom short_room refl (ends ∙ if_yes _ _ _ complete ∙ if_yes _ _ _ within ∙ if_no _ _ _ h)
+        short-answers h = refuses ShortRoom (ends ∙ if_yes _ _ _ complete ∙ if_yes _ _ _ within ∙ if_no _ _ _ h)
 
         pub done-answers : leb (length d.table) (length old) ≡ true → (n : ℕ) → n ≡ length d.table → (new : List ℕ)
-            → new ≡ d.table ++ drop n old → Answers d (Done n) old new
+            → new ≡ d.table ++ drop n old → Answers d (Ok n) old new
         unfolding finished
         done-answers h n e new w =
             let j : judged d (length old) ≡ assembled n =
@@ -78,49 +78,47 @@ module _ (text syms t old : List ℕ) (c : Collected) (p : Prepared text syms t 
   table_is : (deck_of text).table ≡ t
   table_is = sym (ap (λ (d : Deck). d.table) (deck-is text syms t c p))
 
-  pub broken-ends : (m l : ℕ) (g : Fault) → v ≡ Broken m l → g ≡ fault_in v → Answers (deck_of text) (Faulty g) old old
-  broken-ends m l g e q =
-      subst (λ (x : Fault). Answers (deck_of text) (Faulty x) old old) (sym (q ∙ ap fault_in e))
-      (faulty-answers (deck_of text) old (fault_in (Broken m l)) (first-is (Broken m l) e))
+  pub broken-ends : (f : Fault) → v ≡ Err f → Answers (deck_of text) (Err (Faulty f)) old old
+  broken-ends f e = faulty-answers (deck_of text) old f (first-is (Err f) e)
 
-  module _ (clear : v ≡ Clear) (complete : Bool)
-      (complete-by : complete ≡ (c.closed and sections_ok t and all_placed (symbols_in syms c.labels) (symbols_in syms c.labels))) where
+  module _ (clear : v ≡ Ok tt) (complete : Bool)
+      (complete-by : complete ≡ (c.counts.closed and sections_ok t and all_placed (symbols_in syms c.labels) (symbols_in syms c.labels))) where
     complete-of : is_complete (deck_of text) ≡ complete
     complete-of = sym (complete-by ∙ complete-is text syms t c p)
 
-    pub incomplete-ends : complete ≡ false → Answers (deck_of text) Incomplete old old
-    incomplete-ends e = incomplete-answers (deck_of text) old (first-is Clear clear) (complete-of ∙ e)
+    pub incomplete-ends : complete ≡ false → Answers (deck_of text) (Err Incomplete) old old
+    incomplete-ends e = incomplete-answers (deck_of text) old (first-is (Ok tt) clear) (complete-of ∙ e)
 
-    module _ (yes : complete ≡ true) (within : Bool) (within_by : within ≡ is_within c.size c.labels c.fresh (c.constants + c.workings)) where
+    module _ (yes : complete ≡ true) (within : Bool) (within_by : within ≡ is_within c.counts.size c.labels c.counts.fresh (c.counts.constants + c.counts.workings)) where
       within_of : limits_kept (deck_of text) ≡ within
       within_of = sym (within_by ∙ within-is text syms t c p)
 
-      pub over-ends : within ≡ false → Answers (deck_of text) OverLimit old old
-      over-ends e = over-answers (deck_of text) old (first-is Clear clear) (complete-of ∙ yes) (within_of ∙ e)
+      pub over-ends : within ≡ false → Answers (deck_of text) (Err OverLimit) old old
+      over-ends e = over-answers (deck_of text) old (first-is (Ok tt) clear) (complete-of ∙ yes) (within_of ∙ e)
 
       module _ (kept : within ≡ true) (new : List ℕ) (fits : Bool) (placed : Placed t old new fits) where
-        pub short-ends : fits ≡ false → Answers (deck_of text) ShortRoom old new
+        pub short-ends : fits ≡ false → Answers (deck_of text) (Err ShortRoom) old new
         short-ends e =
-            subst (λ (l : List ℕ). Answers (deck_of text) ShortRoom old l) (sym (placed.left ∙ if_no _ _ _ e))
-            (short-answers (deck_of text) old (first-is Clear clear) (complete-of ∙ yes) (within_of ∙ kept)
+            subst (λ (l : List ℕ). Answers (deck_of text) (Err ShortRoom) old l) (sym (placed.left ∙ if_no _ _ _ e))
+            (short-answers (deck_of text) old (first-is (Ok tt) clear) (complete-of ∙ yes) (within_of ∙ kept)
             (rw table_is (sym placed.fits ∙ e)))
 
-        pub done-ends : fits ≡ true → Answers (deck_of text) (Done (length t)) old new
+        pub done-ends : fits ≡ true → Answers (deck_of text) (Ok (length t)) old new
         done-ends e =
-            done-answers (deck_of text) old (first-is Clear clear) (complete-of ∙ yes) (within_of ∙ kept)
+            done-answers (deck_of text) old (first-is (Ok tt) clear) (complete-of ∙ yes) (within_of ∙ kept)
             (rw table_is (sym placed.fits ∙ e)) (length t) (rw table_is refl) new
             (rw table_is (placed.left ∙ if_yes _ _ _ e))
 
 -- The whole text: its length first.
 
 pub long-answers : (text old : List ℕ) → max_bytes < length text
-    → (answer_view LongText ≡ answer_of text (length old)) × (old ≡ left_of text old)
+    → (answer_view (Err LongText) ≡ answer_of text (length old)) × (old ≡ left_of text old)
 unfolding answer_of left_of
 long-answers text old h =
     let e : answer_of text (length old) ≡ refused long_text = if_no _ _ _ (lt-leb (length text) max_bytes h) in
     (sym e, sym (ap (λ (a : Answer). left_by a (deck_of text).table old) e))
 
-pub short-text : (text old new : List ℕ) (r : Assembled) → length text ≤ max_bytes → Answers (deck_of text) r old new
+pub short-text : (text old new : List ℕ) (r : Result ℕ Refused) → length text ≤ max_bytes → Answers (deck_of text) r old new
     → (answer_view r ≡ answer_of text (length old)) × (new ≡ left_of text old)
 unfolding answer_of left_of
 short-text text old new r h a =

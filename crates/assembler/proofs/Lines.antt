@@ -19,10 +19,10 @@ use Rattle.asm_reader.specs.Line.{line_end}
 use Rattle.asm_reader.proofs.Laws.{walk-line}
 use Rattle.asm_cards.specs.Reading.{Counted}
 use Rattle.asm_cards.proofs.Counting.{card-own, counted-past, counted_start}
-use Rattle.asm_answers.specs.Verdicts.{VerdictOf, verdict_view}
-use Rattle.asm_answers.specs.declared.verdict.Verdict.{Verdict}
-use Rattle.asm_answers.specs.declared.verdict.Verdict.TheVariants.{Clear, Broken}
+use Rattle.asm_answers.specs.Verdicts.{Verdict, VerdictOf, verdict_view}
+use Rattle.asm_answers.specs.declared.verdict.Fault.{Fault}
 use Rattle.assembler.specs.Judges.{PlaceBelow}
+use Rattle.std.specs.Prelude.{Ok, Err}
 
 -- the reader r stands at byte i: what it has counted, the places below and those to come, and no fault above
 pub record Judging (text : List ℕ) (d : Deck) (size : ℕ) (r : Reader) (i : ℕ) : Type 0 where
@@ -74,18 +74,18 @@ module _ (text : List ℕ) (d : Deck) (size : ℕ) (r : Reader) (i e : ℕ) (v :
     unfolding first_fault
     told a = (rw f-is at (u-is (first_fault d below a))) ∙ first_of a
 
-    pub broken : (m l : ℕ) → u ≡ Broken m l → (a : Answer) → verdict_view u a ≡ first_fault d (cards_of text) a
-    broken m l e a =
+    pub broken : (f : Fault) → u ≡ Err f → (a : Answer) → verdict_view u a ≡ first_fault d (cards_of text) a
+    broken f e a =
         ap (λ (x : Verdict). verdict_view x a) e ∙ sym (ap (λ (x : Verdict). verdict_view x (first_fault d below a)) e) ∙ told a
 
-    goes_on_lem : u ≡ Clear → (a : Answer) → first_fault d below a ≡ first_fault d (cards_of text) a
+    goes_on_lem : u ≡ Ok tt → (a : Answer) → first_fault d below a ≡ first_fault d (cards_of text) a
     goes_on_lem e a = sym (ap (λ (x : Verdict). verdict_view x (first_fault d below a)) e) ∙ told a
 
-    pub closes : u ≡ Clear → is_assembly END k.operation ≡ true → (a : Answer) → a ≡ first_fault d (cards_of text) a
+    pub closes : u ≡ Ok tt → is_assembly END k.operation ≡ true → (a : Answer) → a ≡ first_fault d (cards_of text) a
     unfolding first_fault if
     closes n t a = rw t at (goes_on_lem n a)
 
-    pub step : u ≡ Clear → is_assembly END k.operation ≡ false → e ≤ length text → Judging text d size (past k) (e + 1)
+    pub step : u ≡ Ok tt → is_assembly END k.operation ≡ false → e ≤ length text → Judging text d size (past k) (e + 1)
     unfolding past if
     step n t l =
         let m : length k.line ≡ e - i = rw line-is (length-take-le (e - i) (drop i text) (omega (arith, length-drop i text))) in

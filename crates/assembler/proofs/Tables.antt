@@ -50,19 +50,19 @@ module _ (text syms t : List ℕ) (c : Collected) (p : Prepared text syms t c) w
   unfolding image
   table-parts = p.table_is ∙ ap (λ (h : List ℕ). h ++ parts) (sym p.collected.header_is)
 
-  pub size_is : c.size ≡ get_or t 0 0
+  pub size_is : c.counts.size ≡ get_or t 0 0
   size_is = sym (ap (λ (l : List ℕ). get_or l 0 0) table-parts)
 
-  constants-is : c.constants ≡ get_or t 1 0
+  constants-is : c.counts.constants ≡ get_or t 1 0
   constants-is = sym (ap (λ (l : List ℕ). get_or l 1 0) table-parts)
 
-  workings-is : c.workings ≡ get_or t 2 0
+  workings-is : c.counts.workings ≡ get_or t 2 0
   workings-is = sym (ap (λ (l : List ℕ). get_or l 2 0) table-parts)
 
-  fresh-is : c.fresh ≡ get_or t 3 0
+  fresh-is : c.counts.fresh ≡ get_or t 3 0
   fresh-is = sym (ap (λ (l : List ℕ). get_or l 3 0) table-parts)
 
-  externals-is : c.externals ≡ get_or t 4 0
+  externals-is : c.counts.externals ≡ get_or t 4 0
   externals-is = sym (ap (λ (l : List ℕ). get_or l 4 0) table-parts)
 
   long : length t ≡ table_length t
@@ -83,23 +83,22 @@ module _ (text syms t : List ℕ) (c : Collected) (p : Prepared text syms t c) w
       })
       long
 
-  pub entries-are : (k : ℕ) → k ≡ c.size → Entries t k
+  pub entries-are : (k : ℕ) → k ≡ c.counts.size → Entries t k
   entries-are k e = entries-of t k laid-is (e ∙ size_is)
 
   pub short-table : length t ≤ 196616
   short-table = omega (arith, laid-is.exact, laid-is.limits.few, laid-is.limits.fresh, laid-is.limits.externals, laid-is.limits.words)
 
   -- the number of places is the header's first
-  places : count holds_place cards ≡ c.size
+  places : count holds_place cards ≡ c.counts.size
   unfolding header
   places = sym (ap (λ (l : List ℕ). get_or l 0 0) p.collected.header_is)
 
-  pub judged-by : (k : ℕ) → k ≡ c.size → (cs body : List ℕ) → k < length cs → ClassesOf t cs → Filled t k body
-      → Judged text syms n t cs body k
+  pub judged-by : (k : ℕ) → k ≡ c.counts.size → (cs body : List ℕ) → k < length cs → ClassesOf t cs → Filled t k body
+      → Judged text t cs body k
   judged-by k e cs body r h b =
       record {
         short = p.short;
-        symbolic = p.collected.symbolic;
         known = known_of t cs body k laid-is (e ∙ size_is) r h b;
         places = places ∙ sym e;
       }
@@ -111,11 +110,11 @@ module _ (text syms t : List ℕ) (c : Collected) (p : Prepared text syms t c) w
       ap (λ (l : List Symbol). deck_from cards l t) p.collected.symbols
       ∙ ap (λ (l : List ℕ). deck_from cards all l) p.table_is
 
-  pub complete-is : c.closed and sections_ok t and all_placed (symbols_in syms n) (symbols_in syms n) ≡ is_complete (deck_of text)
+  pub complete-is : c.counts.closed and sections_ok t and all_placed (symbols_in syms n) (symbols_in syms n) ≡ is_complete (deck_of text)
   unfolding is_complete
   complete-is = rw p.collected.closed_is (ap is_complete deck-is)
 
-  pub within-is : is_within c.size n c.fresh (c.constants + c.workings) ≡ limits_kept (deck_of text)
+  pub within-is : is_within c.counts.size n c.counts.fresh (c.counts.constants + c.counts.workings) ≡ limits_kept (deck_of text)
   unfolding limits_kept size fresh_count constants workings
   within-is = rw (size_is, fresh-is, constants-is, workings-is, sym (symbols-length syms 0 n)) (ap limits_kept deck-is)
 

@@ -8,13 +8,9 @@ use Rattle.language.specs.Symbol.{Symbol}
 use Rattle.language.specs.Image.{count, image, symbols_of}
 use Rattle.language.specs.Fault.{Deck}
 use Rattle.language.specs.Answer.{Answer, first_fault}
-use Rattle.asm_symbols.specs.Symbolic.{Symbolic}
 use Rattle.asm_collect.specs.Gathered.{CollectedOf}
 use Rattle.asm_collect.specs.declared.Collected.{Collected}
-use Rattle.asm_answers.specs.Verdicts.{verdict_view}
-use Rattle.asm_answers.specs.declared.verdict.Verdict.{Verdict}
-use Rattle.asm_answers.specs.declared.verdict.Verdict.TheVariants.{Clear, Broken}
-use Rattle.assembler.specs.declared.Fault.{Fault}
+use Rattle.asm_answers.specs.Verdicts.{Verdict, verdict_view}
 
 abbrev pub deck_from : List Cards.Card → List Symbol → List ℕ → Deck
 deck_from cs all t = record { cards = cs; symbols = all; table = t }
@@ -27,18 +23,13 @@ OfDeck f all t r = (cs : List Cards.Card) → r ≡ f (deck_from cs all t)
 abbrev pub PlaceBelow : ℕ → Cards.Card → Type 0
 PlaceBelow size c = Cards.holds_place c ≡ true → c.spot.place < size
 
-abbrev pub fault_in : Verdict → Fault
-fault_in Clear = record { number = 0; line = 0 }
-fault_in (Broken n l) = record { number = n; line = l }
-
 -- v is the first fault of some cards
 abbrev pub FirstFault : Deck → List Cards.Card → Verdict → Type 0
 FirstFault d cs v = (a : Answer) → verdict_view v a ≡ first_fault d cs a
 
--- a text that is not too long, its symbols, its table with class and body of each place
-pub record Judged (text syms : List ℕ) (n : ℕ) (t classes body : List ℕ) (size : ℕ) : Type 0 where
+-- a text that is not too long, its table with class and body of each place
+pub record Judged (text t classes body : List ℕ) (size : ℕ) : Type 0 where
   pub short : length text ≤ max_bytes
-  pub symbolic : Symbolic syms n
   pub known : Known t classes body size
   pub places : count Cards.holds_place (Cards.cards_of text) ≡ size
 

@@ -8,17 +8,15 @@ ghost use Rattle.language.specs.Symbol.{all_placed};
 ghost use Rattle.language.specs.Fault.{deck_of};
 ghost use Rattle.language.specs.Answer.{is_within};
 ghost use Rattle.asm_types.specs.Views.{symbols_in};
-ghost use Rattle.asm_symbols.specs.Symbolic.{Symbolic};
 ghost use Rattle.assembler.specs.Answers.{Answers};
 ghost use Rattle.assembler.specs.Judges.{Prepared};
 
-use crate::Assembled;
-use crate::judge::{fault_in, judge};
+use crate::Refusal;
+use crate::judge::judge;
 use asm_answers::room::is_placed;
-use asm_answers::verdict::Verdict;
 use asm_collect::Collected;
 use asm_shapes::classes::classes_of;
-use asm_symbols::meanings::all_placed;
+use asm_symbols::list::SymbolList;
 use bodies::body::bodies;
 use op_lookup::numbers::NumberIndex;
 use ops::constants::Machine;
@@ -29,9 +27,9 @@ use table_layout::{index, sections_ok, sum};
 const MAX_LABELS: usize = 512;
 
 // END closes section 6, no section is empty, and each declaration has its place [S 8].
-fn is_complete(table: &[u32], syms: &[u64], n: usize, closed: bool) -> bool
-    requires { (8 ≤ length table.now) × Symbolic syms.now n }
-    ensures { result ≡ (closed and sections_ok table.now and all_placed (symbols_in syms.now n) (symbols_in syms.now n)) }
+fn is_complete(table: &[u32], symbols: &SymbolList<'_>, closed: bool) -> bool
+    requires { 8 ≤ length table.now }
+    ensures { result ≡ (closed and sections_ok table.now and all_placed (symbols_in symbols.now.words.now symbols.now.n) (symbols_in symbols.now.words.now symbols.now.n)) }
 {
     if !closed {
         return false;
@@ -39,23 +37,23 @@ fn is_complete(table: &[u32], syms: &[u64], n: usize, closed: bool) -> bool
     if !sections_ok(table) {
         return false;
     }
-    all_placed(syms, n)
+    symbols.all_placed()
 }
 
 // Operations, labels, fresh words and words are within their limits [S 9].
-fn is_within(c: Collected) -> bool
-    ensures { result ≡ is_within c.size c.labels c.fresh (c.constants + c.workings) }
+fn is_within(c: &Collected) -> bool
+    ensures { result ≡ is_within c.now.counts.size c.now.labels c.now.counts.fresh (c.now.counts.constants + c.now.counts.workings) }
 {
-    if Machine::MAX_INSTRS < index(c.size) {
+    if Machine::MAX_INSTRS < index(c.counts.size) {
         return false;
     }
     if MAX_LABELS < c.labels {
         return false;
     }
-    if Machine::MAX_FRESH < index(c.fresh) {
+    if Machine::MAX_FRESH < index(c.counts.fresh) {
         return false;
     }
-    sum(c.constants, c.workings) <= Machine::MAX_WORDS
+    sum(c.counts.constants, c.counts.workings) <= Machine::MAX_WORDS
 }
 
 // The answer, given what is collected and the draft of the table. The lent table is written last.
@@ -64,31 +62,31 @@ pub fn finish(
     numbers: &NumberIndex,
     text: &[u8],
     syms: &[u64],
-    c: Collected,
+    c: &Collected,
     draft: &[u32],
     classes: &mut [u32],
     body: &mut [u32],
     table: &mut [u32],
-) -> Assembled
-    requires { (list.now ≡ map cells_of rows) × Prepared text.now syms.now draft.now c × (16385 ≤ length classes.old) × (16385 ≤ length body.old) × IndexOf numbers.now }
+) -> Result<u32, Refusal>
+    requires { (list.now ≡ map cells_of rows) × Prepared text.now syms.now draft.now c.now × (16385 ≤ length classes.old) × (16385 ≤ length body.old) × IndexOf numbers.now }
     ensures { Answers (deck_of text.now) result table.old table.new }
 {
-    let n = c.labels;
-    let size = index(c.size);
+    let symbols = SymbolList {
+        words: syms,
+        n: c.labels,
+    };
+    let size = index(c.counts.size);
     classes_of(draft, list, numbers, size, classes);
     bodies(draft, size, body);
-    let v = judge(list, numbers, text, syms, n, draft, classes, body, size);
-    let Verdict::Clear = v else {
-        return Assembled::Faulty(fault_in(v));
-    };
-    if !is_complete(draft, syms, n, c.closed) {
-        return Assembled::Incomplete;
+    judge(list, numbers, text, &symbols, draft, classes, body, size)?;
+    if !is_complete(draft, &symbols, c.counts.closed) {
+        return Err(Refusal::Incomplete);
     }
     if !is_within(c) {
-        return Assembled::OverLimit;
+        return Err(Refusal::OverLimit);
     }
     if !is_placed(draft, table) {
-        return Assembled::ShortRoom;
+        return Err(Refusal::ShortRoom);
     }
-    Assembled::Done(draft.len() as u32)
+    Ok(draft.len() as u32)
 }

@@ -6,28 +6,17 @@ ghost use Rattle.shape_core.specs.Known.{Known};
 ghost use Rattle.language.specs.Card.{cards_of};
 ghost use Rattle.language.specs.Fault.{fault_of};
 ghost use Rattle.asm_types.specs.Views.{card_view, symbols_in};
-ghost use Rattle.asm_symbols.specs.Symbolic.{Symbolic};
-ghost use Rattle.assembler.specs.Judges.{FirstFault, Judged, OfDeck, PlaceBelow, deck_from, fault_in};
+ghost use Rattle.assembler.specs.Judges.{FirstFault, Judged, OfDeck, PlaceBelow, deck_from};
 
-use crate::Fault;
 use crate::shape::shape_fault;
-use asm_answers::verdict::{Verdict, verdict_of};
+use asm_answers::verdict::{Fault, verdict_of};
 use asm_cards::{card_of, is_closing, past};
 use asm_faults::fault_of;
 use asm_reader::line_end;
+use asm_symbols::list::SymbolList;
 use asm_types::{Card, Reader};
 use op_lookup::numbers::NumberIndex;
 use ops::table::Operations;
-
-// The fault that a verdict names: number 0 where there is none.
-pub fn fault_in(v: Verdict) -> Fault
-    ensures { result ≡ fault_in v }
-{
-    match v {
-        Verdict::Clear => Fault { number: 0, line: 0 },
-        Verdict::Broken(number, line) => Fault { number, line },
-    }
-}
 
 // The smallest number of a line's faults, or 0.
 fn line_fault(
@@ -35,18 +24,17 @@ fn line_fault(
     numbers: &NumberIndex,
     c: Card,
     s: &[u8],
-    syms: &[u64],
-    n: usize,
+    symbols: &SymbolList<'_>,
     table: &[u32],
     classes: &[u32],
     body: &[u32],
     size: usize,
 ) -> u32
-    requires { (list.now ≡ map cells_of rows) × Symbolic syms.now n × Known table.now classes.now body.now size × PlaceBelow size (card_view c s.now) × IndexOf numbers.now }
-    ensures { OfDeck (λ d. fault_of d (card_view c s.now)) (symbols_in syms.now n) table.now result }
+    requires { (list.now ≡ map cells_of rows) × Known table.now classes.now body.now size × PlaceBelow size (card_view c s.now) × IndexOf numbers.now }
+    ensures { OfDeck (λ d. fault_of d (card_view c s.now)) (symbols_in symbols.now.words.now symbols.now.n) table.now result }
 {
-    let shape = shape_fault(list, numbers, c, s, syms, n, table, classes, body, size);
-    fault_of(list, c, s, syms, n, shape)
+    let shape = shape_fault(list, numbers, c, s, symbols, table, classes, body, size);
+    fault_of(list, c, s, symbols, shape)
 }
 
 // The first fault of a text.
@@ -54,15 +42,14 @@ pub fn judge(
     list: &Operations,
     numbers: &NumberIndex,
     text: &[u8],
-    syms: &[u64],
-    n: usize,
+    symbols: &SymbolList<'_>,
     table: &[u32],
     classes: &[u32],
     body: &[u32],
     size: usize,
-) -> Verdict
-    requires { (list.now ≡ map cells_of rows) × Judged text.now syms.now n table.now classes.now body.now size × IndexOf numbers.now }
-    ensures { FirstFault (deck_from (cards_of text.now) (symbols_in syms.now n) table.now) (cards_of text.now) result }
+) -> Result<(), Fault>
+    requires { (list.now ≡ map cells_of rows) × Judged text.now table.now classes.now body.now size × IndexOf numbers.now }
+    ensures { FirstFault (deck_from (cards_of text.now) (symbols_in symbols.now.words.now symbols.now.n) table.now) (cards_of text.now) result }
 {
     let mut r = Reader {
         line: 1,
@@ -80,22 +67,22 @@ pub fn judge(
             numbers,
             c,
             &text[from..to],
-            syms,
-            n,
+            symbols,
             table,
             classes,
             body,
             size,
         );
         let v = verdict_of(f, c.spot.line);
-        let Verdict::Clear = v else {
+        // Not `?`: the refusal returned at once by `let .. else` is a form that D48 names.
+        let Ok(()) = v else {
             return v;
         };
         if is_closing(c) {
-            return Verdict::Clear;
+            return Ok(());
         }
         r = past(c, &text[from..to]);
         from = to + 1;
     }
-    Verdict::Clear
+    Ok(())
 }

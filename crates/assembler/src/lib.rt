@@ -6,10 +6,13 @@ ghost use Rattle.language.specs.Text.{max_bytes};
 ghost use Rattle.language.specs.Fault.{deck_of};
 ghost use Rattle.language.specs.Answer.{answer_of, left_of};
 ghost use Rattle.assembler.specs.Answers.{Answers, answer_view, line_of, answer_number};
+ghost use Rattle.assembler.specs.declared.Refusal.TheVariants.{Faulty};
 
 use crate::finish::finish;
+use asm_answers::verdict::Fault;
 use asm_collect::collect;
 use asm_draft::deck::fill;
+use asm_symbols::list::SymbolList;
 use op_lookup::numbers::number_index;
 use ops::constants::Machine;
 use table_layout::{ENTRY, HEADER};
@@ -34,18 +37,10 @@ const TABLE_WORDS: usize = 180240;
 
 const PLACES: usize = 16386;
 
-// A line's fault: its number, 1 to 7, and the line, the first being 1.
-#[derive(Clone, Copy)]
-pub struct Fault {
-    pub number: u32,
-    pub line: u32,
-}
-
-// The table's length; or the text is too long (9), a line has a fault (1 to 7), something is missing (8), a limit is passed (9), the
+// Why there is no table: the text is too long (9), a line has a fault (1 to 7), something is missing (8), a limit is passed (9), the
 // room is short (10) [S Numbers the host sees].
 #[derive(Clone, Copy)]
-pub enum Assembled {
-    Done(u32),
+pub enum Refusal {
     LongText,
     Faulty(Fault),
     Incomplete,
@@ -53,36 +48,40 @@ pub enum Assembled {
     ShortRoom,
 }
 
+impl From<Fault> for Refusal {
+    ghost from_gives = { λ fault refusal. refusal ≡ Faulty fault };
+
+    fn from(fault: Fault) -> Refusal {
+        Refusal::Faulty(fault)
+    }
+}
+
 // The number that the host sees, 0 for a table.
-pub fn number(a: Assembled) -> u32
+pub fn number(a: Result<u32, Refusal>) -> u32
     ensures { result ≡ answer_number (answer_view a) }
 {
     match a {
-        Assembled::Done(_) => 0,
-        Assembled::LongText => 9,
-        Assembled::Faulty(f) => f.number,
-        Assembled::Incomplete => 8,
-        Assembled::OverLimit => 9,
-        Assembled::ShortRoom => 10,
+        Ok(_) => 0,
+        Err(Refusal::LongText) => 9,
+        Err(Refusal::Faulty(f)) => f.number,
+        Err(Refusal::Incomplete) => 8,
+        Err(Refusal::OverLimit) => 9,
+        Err(Refusal::ShortRoom) => 10,
     }
 }
 
 // The line that the host sees, 0 for none.
-pub fn line(a: Assembled) -> u32
+pub fn line(a: Result<u32, Refusal>) -> u32
     ensures { result ≡ line_of (answer_view a) }
 {
     match a {
-        Assembled::Done(_) => 0,
-        Assembled::LongText => 0,
-        Assembled::Faulty(f) => f.line,
-        Assembled::Incomplete => 0,
-        Assembled::OverLimit => 0,
-        Assembled::ShortRoom => 0,
+        Err(Refusal::Faulty(f)) => f.line,
+        _ => 0,
     }
 }
 
 // A text that is not too long.
-fn assemble_short(cards: &[u8], table: &mut [u32]) -> Assembled
+fn assemble_short(cards: &[u8], table: &mut [u32]) -> Result<u32, Refusal>
     requires { length cards.now ≤ max_bytes }
     ensures { Answers (deck_of cards.now) result table.old table.new }
 {
@@ -90,18 +89,27 @@ fn assemble_short(cards: &[u8], table: &mut [u32]) -> Assembled
     let numbers = number_index(&list);
     let mut syms = [0u64; SYMBOL_WORDS];
     let c = collect(&list, cards, &mut syms);
-    let header = [
-        c.size,
-        c.constants,
-        c.workings,
-        c.fresh,
-        c.externals,
-        0,
-        c.section5,
-        c.section6,
-    ];
     let mut draft = [0u32; TABLE_WORDS];
-    let long = fill(&list, cards, &syms, c.labels, header, &mut draft);
+    let symbols = SymbolList {
+        words: &syms,
+        n: c.labels,
+    };
+    let long = fill(
+        &list,
+        cards,
+        &symbols,
+        [
+            c.counts.size,
+            c.counts.constants,
+            c.counts.workings,
+            c.counts.fresh,
+            c.counts.externals,
+            0,
+            c.counts.section5,
+            c.counts.section6,
+        ],
+        &mut draft,
+    );
     let mut classes = [0u32; PLACES];
     let mut body = [0u32; PLACES];
     finish(
@@ -109,7 +117,7 @@ fn assemble_short(cards: &[u8], table: &mut [u32]) -> Assembled
         &numbers,
         cards,
         &syms,
-        c,
+        &c,
         &draft[0..long],
         &mut classes,
         &mut body,
@@ -117,12 +125,12 @@ fn assemble_short(cards: &[u8], table: &mut [u32]) -> Assembled
     )
 }
 
-// Cards become the table at the front of the lent words. A refused text changes none of them.
-pub fn assemble(cards: &[u8], table: &mut [u32]) -> Assembled
+// Cards become the table at the front of the lent words, of this length. A refused text changes none of them.
+pub fn assemble(cards: &[u8], table: &mut [u32]) -> Result<u32, Refusal>
     ensures { (answer_view result ≡ answer_of cards.now (length table.old)) × (table.new ≡ left_of cards.now table.old) }
 {
     if MAX_BYTES < cards.len() {
-        return Assembled::LongText;
+        return Err(Refusal::LongText);
     }
     assemble_short(cards, table)
 }

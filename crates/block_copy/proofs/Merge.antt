@@ -78,11 +78,10 @@ module _ (m : List ℕ) (g : ℕ) (l : g < length m) (f : ℕ) (away : f + 1 ≡
   step n (suc (suc (suc zero))) h k = step-three n
   step n (suc (suc (suc (suc r)))) h k = absurd (omega arith)
 
--- one turn of the loop
-pub merged-step : (n f g r : ℕ) (m : List ℕ) → 0 < n → 0 < r → r < 4 → g < length m → (g ≡ f + 1 → ⊥) → AllWords m
-    → copied_chars (4 * n) (4 * f + r) (4 * g) m ≡ copied_chars (4 * (n - 1)) (4 * (f + 1) + r) (4 * (g + 1)) (set m g (merged_word (m at f) (m at (f + 1)) r))
-merged-step zero f g r m z h k l away a = absurd (omega arith)
-merged-step (suc n) f g r m z h k l away a =
-    same-counts m {n = 4 * suc n} {n' = suc (suc (suc (suc (4 * n))))} {f = 4 * f + r} {f' = 4 * f + r} {g = 4 * g} {g' = 4 * g + 0} (omega arith) refl (omega arith)
-    ∙ step m g l f (λ e. away (sym e)) (a f) (a g) (4 * n) r h k
-    ∙ same-counts (set m g (merged_word (m at f) (m at (f + 1)) r)) {n = 4 * n} {n' = 4 * (suc n - 1)} {f = suc (suc (suc (suc (4 * f + r))))} {f' = 4 * (f + 1) + r} {g = 4 * g + 4} {g' = 4 * (g + 1)} (omega arith) (omega arith) (omega arith)
+-- word i of n
+pub merged-step : (n i f g r : ℕ) (m : List ℕ) → i < n → 0 < r → r < 4 → g + i < length m → (g ≡ f + 1 → ⊥) → AllWords m
+    → copied_chars (4 * (n - i)) (4 * (f + i) + r) (4 * (g + i)) m ≡ copied_chars (4 * (n - (i + 1))) (4 * (f + (i + 1)) + r) (4 * (g + (i + 1))) (set m (g + i) (merged_word (m at (f + i)) (m at (f + i + 1)) r))
+merged-step n i f g r m z h k l away a =
+    same-counts m {n = 4 * (n - i)} {n' = suc (suc (suc (suc (4 * (n - (i + 1))))))} {f = 4 * (f + i) + r} {f' = 4 * (f + i) + r} {g = 4 * (g + i)} {g' = 4 * (g + i) + 0} (omega arith) refl (omega arith)
+    ∙ step m (g + i) l (f + i) (λ e. away (omega (arith, e))) (a (f + i)) (a (g + i)) (4 * (n - (i + 1))) r h k
+    ∙ same-counts (set m (g + i) (merged_word (m at (f + i)) (m at (f + i + 1)) r)) {n = 4 * (n - (i + 1))} {n' = 4 * (n - (i + 1))} {f = suc (suc (suc (suc (4 * (f + i) + r))))} {f' = 4 * (f + (i + 1)) + r} {g = 4 * (g + i) + 4} {g' = 4 * (g + (i + 1))} refl (omega arith) (omega arith)

@@ -5,7 +5,6 @@ use mathlib.Core.Path.{◌≡◌, refl, sym, ap, ◌∙◌}
 use mathlib.Core.Bool.{Bool, true, false}
 use mathlib.Core.List.{List}
 use native.Mathlib.Omega.{arith}
-use native.Mathlib.Numerals.{add-one, sub-one}
 use lib.Dec.{eqb}
 use lib.ListN.{length, set, length-set}
 use lib.Seq.{get_or-set_same, get_or-set_other}
@@ -19,16 +18,22 @@ use Rattle.block_chars.proofs.Laws.{AllWords}
 use Rattle.block_chars.proofs.Merge.{one, two, three, after_one, after_two, after-three, read}
 use Rattle.block_copy.proofs.Four.{same-counts, put_four}
 
--- a word, a character copied
-pub copied-word : (n f g : ℕ) (m : List ℕ) → 0 < n → copied_words n f g m ≡ copied_words (n - 1) (f + 1) (g + 1) (set m g (m at f))
-unfolding copied_words
-copied-word zero f g m h = absurd (omega arith)
-copied-word (suc n) f g m h = rw (sub-one, add-one f, add-one g)
+-- equal counts and addresses
+pub same-word-counts : (m : List ℕ) {n n' f f' g g' : ℕ} → n ≡ n' → f ≡ f' → g ≡ g' → copied_words n f g m ≡ copied_words n' f' g' m
+same-word-counts m p q r = rw (p, q, r)
 
-pub copied-char : (n f g : ℕ) (m : List ℕ) → 0 < n → copied_chars n f g m ≡ copied_chars (n - 1) (f + 1) (g + 1) (with_char m g (char_in m f))
+-- word i, character i of n copied
+pub copied-word : (n i f g : ℕ) (m : List ℕ) → i < n → copied_words (n - i) (f + i) (g + i) m ≡ copied_words (n - (i + 1)) (f + (i + 1)) (g + (i + 1)) (set m (g + i) (m at (f + i)))
+unfolding copied_words
+copied-word n i f g m h =
+    same-word-counts m {n = n - i} {n' = suc (n - (i + 1))} (omega arith) refl refl
+    ∙ same-word-counts (set m (g + i) (m at (f + i))) {n = n - (i + 1)} {n' = n - (i + 1)} {f = suc (f + i)} {f' = f + (i + 1)} {g = suc (g + i)} {g' = g + (i + 1)} refl (omega arith) (omega arith)
+
+pub copied-char : (n i f g : ℕ) (m : List ℕ) → i < n → copied_chars (n - i) (f + i) (g + i) m ≡ copied_chars (n - (i + 1)) (f + (i + 1)) (g + (i + 1)) (with_char m (g + i) (char_in m (f + i)))
 unfolding copied_chars
-copied-char zero f g m h = absurd (omega arith)
-copied-char (suc n) f g m h = rw (sub-one, add-one f, add-one g)
+copied-char n i f g m h =
+    same-counts m {n = n - i} {n' = suc (n - (i + 1))} (omega arith) refl refl
+    ∙ same-counts (with_char m (g + i) (char_in m (f + i))) {n = n - (i + 1)} {n' = n - (i + 1)} {f = suc (f + i)} {f' = f + (i + 1)} {g = suc (g + i)} {g' = g + (i + 1)} refl (omega arith) (omega arith)
 
 -- nothing is left
 pub copied-words-none : (n f g : ℕ) (m : List ℕ) → n ≤ 0 → copied_words n f g m ≡ m

@@ -1,4 +1,5 @@
-// Characters and words copied in memory, the lowest first, so that a copy sees what it has changed so far.
+// Characters and words copied in memory, the lowest first, so that a copy sees what it has changed so far. Words, characters and merged words have
+// a loop each: over a trait of the unit each would have its contract and proof all the same, and a merged word is read from two.
 #![tactic(auto)]
 
 ghost use Rattle.std.specs.Prelude.{◌≡◌, ◌<◌, ◌≤◌, ◌+◌, ◌*◌, ◌%◌, length};
@@ -16,14 +17,9 @@ fn copy_words(m: &mut [u32], from: usize, to: usize, n: usize)
     requires { (from + n ≤ length m.old) × (to + n ≤ length m.old) }
     ensures { m.new ≡ copied_words n from to m.old }
 {
-    let mut f = from;
-    let mut g = to;
-    let mut left = n;
-    while 0 < left {
-        m[g] = m[f];
-        f += 1;
-        g += 1;
-        left -= 1;
+    // The library's copy_within moves words as if it read them all first, so a repeat of what was copied would be lost.
+    for i in 0..n {
+        m[to + i] = m[from + i];
     }
 }
 
@@ -32,14 +28,8 @@ fn copy_chars(m: &mut [u32], from: u32, to: u32, n: u32)
     requires { Within m.old from n × Within m.old to n × (length m.old ≤ max_memory) }
     ensures { m.new ≡ copied_chars n from to m.old }
 {
-    let mut f = from;
-    let mut g = to;
-    let mut left = n;
-    while 0 < left {
-        put_char(m, g, char_in(m, f));
-        f += 1;
-        g += 1;
-        left -= 1;
+    for i in 0..n {
+        put_char(m, to + i, char_in(m, from + i));
     }
 }
 
@@ -48,14 +38,8 @@ fn merge_words(m: &mut [u32], from: usize, to: usize, n: usize, r: u32)
     requires { (from + n < length m.old) × (to + n ≤ length m.old) × (0 < r) × (r < cfp_b) × (to ≡ from + 1 → ⊥) }
     ensures { m.new ≡ copied_chars (cfp_b * n) (cfp_b * from + r) (cfp_b * to) m.old }
 {
-    let mut f = from;
-    let mut g = to;
-    let mut left = n;
-    while 0 < left {
-        m[g] = merged(m[f], m[f + 1], r);
-        f += 1;
-        g += 1;
-        left -= 1;
+    for i in 0..n {
+        m[to + i] = merged(m[from + i], m[from + i + 1], r);
     }
 }
 

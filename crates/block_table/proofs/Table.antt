@@ -29,18 +29,19 @@ pub same-counts : (t : ℕ) (m : List ℕ) {n n' f f' : ℕ} → n ≡ n' → f 
 same-counts t m p q = rw (p, q)
 
 -- a table is not in the words that are translated, where it is elsewhere
-away : (n g t : ℕ) → 0 < n → Clear (4 * g) (4 * n) t → (i : ℕ) → i < 256 → (t + i) / 4 ≡ g → ⊥
-away n g t z k i h e = let q : t < 4 * g + 4 * n = omega (arith, e) in omega (arith, e, h, k (omega arith) q)
+away : (end g t : ℕ) → g < end → Clear (4 * g) (4 * (end - g)) t → (i : ℕ) → i < 256 → (t + i) / 4 ≡ g → ⊥
+away end g t z k i h e = let q : t < 4 * g + 4 * (end - g) = omega (arith, e) in omega (arith, e, h, k (omega arith) q)
 
 -- what a table has for each character
 abbrev pub Has : (ℕ → ℕ) → List ℕ → ℕ → Type 0
 Has has m t = (i : ℕ) → i < 256 → has i ≡ char_in m (t + i)
 
-module _ (n g t : ℕ) (m : List ℕ) (has : ℕ → ℕ) (z : 0 < n) (k : Clear (4 * g) (4 * n) t) (same : Has has m t) where
+-- the words from g up to the one before `end`
+module _ (end g t : ℕ) (m : List ℕ) (has : ℕ → ℕ) (z : g < end) (k : Clear (4 * g) (4 * (end - g)) t) (same : Has has m t) where
   -- the same while word g is w
   pub has_kept : (w : ℕ) → Has has (set m g w) t
   unfolding char_in
-  has_kept w i h = same i h ∙ sym (ap (λ (x : ℕ). byte_of x ((t + i) % 4)) (get_or-set_other m g ((t + i) / 4) w 0 (away n g t z k i h)))
+  has_kept w i h = same i h ∙ sym (ap (λ (x : ℕ). byte_of x ((t + i) % 4)) (get_or-set_other m g ((t + i) / 4) w 0 (away end g t z k i h)))
 
   -- what it has is a character
   has-lt : (j : ℕ) → has (byte_of (m at g) j) < 256
@@ -76,11 +77,11 @@ module _ (n g t : ℕ) (m : List ℕ) (has : ℕ → ℕ) (z : 0 < n) (k : Clear
       ∙ ap (λ (v : ℕ). translated r (4 * g + 4) t (set m g v)) (four_is o a b c d ha hb hc hd h)
 
   -- one turn of a loop by words
-  pub table_step : g < length m → m at g < 2 ^ 32 → translated (4 * n) (4 * g) t m ≡ translated (4 * (n - 1)) (4 * (g + 1)) t (set m g (word_by has (m at g)))
+  pub table_step : g < length m → m at g < 2 ^ 32 → translated (4 * (end - g)) (4 * g) t m ≡ translated (4 * (end - (g + 1))) (4 * (g + 1)) t (set m g (word_by has (m at g)))
   table_step l h =
-      same-counts t m {n = 4 * n} {n' = suc (suc (suc (suc (4 * (n - 1)))))} {f = 4 * g} {f' = 4 * g + 0} (omega arith) (omega arith)
-      ∙ put_four (4 * (n - 1)) l h
-      ∙ same-counts t (set m g (word_by has (m at g))) {n = 4 * (n - 1)} {n' = 4 * (n - 1)} {f = 4 * g + 4} {f' = 4 * (g + 1)} refl (omega arith)
+      same-counts t m {n = 4 * (end - g)} {n' = suc (suc (suc (suc (4 * (end - (g + 1))))))} {f = 4 * g} {f' = 4 * g + 0} (omega arith) (omega arith)
+      ∙ put_four (4 * (end - (g + 1))) l h
+      ∙ same-counts t (set m g (word_by has (m at g))) {n = 4 * (end - (g + 1))} {n' = 4 * (end - (g + 1))} {f = 4 * g + 4} {f' = 4 * (g + 1)} refl (omega arith)
 
 -- a list with one more
 pub list-more : (has : ℕ → ℕ) (i v : ℕ) (l : List ℕ) → i < length l → ((j : ℕ) → j < i → l at j ≡ has j) → v ≡ has i → (j : ℕ) → j < i + 1 → set l i v at j ≡ has j

@@ -22,6 +22,15 @@ const CHARACTERS: usize = Machine::CFP_A as usize;
 // The words from which on lists of the table pay.
 const LONG: usize = 150;
 
+// The list of a table's characters, and those that have each of them one, two and three places up in its word.
+#[derive(Drop)]
+struct FourLists {
+    ones: [u32; CHARACTERS],
+    twos: [u32; CHARACTERS],
+    threes: [u32; CHARACTERS],
+    fours: [u32; CHARACTERS],
+}
+
 // The character that the table from the address `to` on has for character k of the word w.
 fn mapped(m: &[u32], to: u32, w: u32, k: u32) -> u32
     requires { Within m.now to cfp_a × (length m.now ≤ max_memory) × (k < cfp_c) }
@@ -46,13 +55,9 @@ fn translate_short(m: &mut [u32], from: usize, to: u32, n: usize)
     requires { (from + n ≤ length m.old) × Within m.old to cfp_a × (length m.old ≤ max_memory) × Clear (cfp_b * from) (cfp_b * n) to }
     ensures { m.new ≡ translated (cfp_b * n) (cfp_b * from) to m.old }
 {
-    let mut f = from;
-    let mut left = n;
-    while 0 < left {
+    for f in from..from + n {
         let w = m[f];
         m[f] = mapped_word(m, to, w);
-        f += 1;
-        left -= 1;
     }
 }
 
@@ -61,10 +66,8 @@ fn fill(m: &[u32], to: u32, list: &mut [u32])
     requires { Within m.now to cfp_a × (length m.now ≤ max_memory) × (cfp_a ≤ length list.old) }
     ensures { Listed cfp_a list.new m.now to }
 {
-    let mut i = 0;
-    while i < Machine::CFP_A {
+    for i in 0..Machine::CFP_A {
         list[index(i)] = char_in(m, to + i);
-        i += 1;
     }
 }
 
@@ -73,10 +76,8 @@ fn raise(list: &[u32], raised: &mut [u32])
     requires { (cfp_a ≤ length list.now) × (cfp_a ≤ length raised.old) × Below (2 ^ 24) list.now }
     ensures { Raised cfp_a raised.new list.now }
 {
-    let mut i: usize = 0;
-    while i < CHARACTERS {
+    for i in 0..CHARACTERS {
         raised[i] = list[i] * Machine::CFP_A;
-        i += 1;
     }
 }
 
@@ -89,34 +90,23 @@ fn listed(list: &[u32], w: u32, k: u32) -> u32
 }
 
 // The sum of what four lists have for the four characters of the word w.
-fn listed_word(ones: &[u32], twos: &[u32], threes: &[u32], fours: &[u32], w: u32) -> u32
-    requires { Lists ones.now twos.now threes.now fours.now }
-    ensures { result ≡ listed_word ones.now w }
+fn listed_word(lists: &FourLists, w: u32) -> u32
+    requires { Lists lists.now.ones lists.now.twos lists.now.threes lists.now.fours }
+    ensures { result ≡ listed_word lists.now.ones w }
 {
-    listed(ones, w, 0) + listed(twos, w, 1) + listed(threes, w, 2) + listed(fours, w, 3)
+    listed(&lists.ones, w, 0)
+        + listed(&lists.twos, w, 1)
+        + listed(&lists.threes, w, 2)
+        + listed(&lists.fours, w, 3)
 }
 
-// The same as translate_short, by lists of the table.
-fn translate_by(
-    m: &mut [u32],
-    from: usize,
-    to: u32,
-    n: usize,
-    ones: &[u32],
-    twos: &[u32],
-    threes: &[u32],
-    fours: &[u32],
-)
-    requires { (from + n ≤ length m.old) × Within m.old to cfp_a × (length m.old ≤ max_memory) × Clear (cfp_b * from) (cfp_b * n) to × Lists ones.now twos.now threes.now fours.now × Listed cfp_a ones.now m.old to }
+// The same as translate_short, by lists of the table. A closure that looks up in the memory which the loop changes cannot stand for both.
+fn translate_by(m: &mut [u32], from: usize, to: u32, n: usize, lists: &FourLists)
+    requires { (from + n ≤ length m.old) × Within m.old to cfp_a × (length m.old ≤ max_memory) × Clear (cfp_b * from) (cfp_b * n) to × Lists lists.now.ones lists.now.twos lists.now.threes lists.now.fours × Listed cfp_a lists.now.ones m.old to }
     ensures { m.new ≡ translated (cfp_b * n) (cfp_b * from) to m.old }
 {
-    let mut f = from;
-    let mut left = n;
-    while 0 < left {
-        let w = m[f];
-        m[f] = listed_word(ones, twos, threes, fours, w);
-        f += 1;
-        left -= 1;
+    for f in from..from + n {
+        m[f] = listed_word(lists, m[f]);
     }
 }
 
@@ -125,15 +115,17 @@ fn translate_long(m: &mut [u32], from: usize, to: u32, n: usize)
     requires { (from + n ≤ length m.old) × Within m.old to cfp_a × (length m.old ≤ max_memory) × Clear (cfp_b * from) (cfp_b * n) to }
     ensures { m.new ≡ translated (cfp_b * n) (cfp_b * from) to m.old }
 {
-    let mut ones = [0u32; 256];
-    let mut twos = [0u32; 256];
-    let mut threes = [0u32; 256];
-    let mut fours = [0u32; 256];
-    fill(m, to, &mut ones);
-    raise(&ones, &mut twos);
-    raise(&twos, &mut threes);
-    raise(&threes, &mut fours);
-    translate_by(m, from, to, n, &ones, &twos, &threes, &fours);
+    let mut lists = FourLists {
+        ones: [0; CHARACTERS],
+        twos: [0; CHARACTERS],
+        threes: [0; CHARACTERS],
+        fours: [0; CHARACTERS],
+    };
+    fill(m, to, &mut lists.ones);
+    raise(&lists.ones, &mut lists.twos);
+    raise(&lists.twos, &mut lists.threes);
+    raise(&lists.threes, &mut lists.fours);
+    translate_by(m, from, to, n, &lists);
 }
 
 // The same, by lists where they pay.

@@ -4,16 +4,16 @@ use Prim.Native.Nat.{ℕ, zero, suc, ◌+◌, ◌-◌, ◌≤◌, ◌<◌}
 use mathlib.Core.Path.{◌≡◌, refl, sym, ap, ◌∙◌}
 use mathlib.Core.List.{List}
 use native.Mathlib.Omega.{arith}
-use native.Mathlib.Numerals.{add-one, sub-one}
 use Rattle.rules.specs.Operand.{char_in, with_char}
 use Rattle.rules.specs.Exec.{translated}
 use Rattle.block_table.proofs.Table.{same-counts}
 
--- one turn
-pub translated-char : (n f g : ℕ) (m : List ℕ) → 0 < n → translated n f g m ≡ translated (n - 1) (f + 1) g (with_char m f (char_in m (g + char_in m f)))
+-- one turn, of those up to the one before `end`
+pub translated-char : (end f g : ℕ) (m : List ℕ) → f < end → translated (end - f) f g m ≡ translated (end - (f + 1)) (f + 1) g (with_char m f (char_in m (g + char_in m f)))
 unfolding translated
-translated-char zero f g m h = absurd (omega arith)
-translated-char (suc n) f g m h = rw (sub-one, add-one)
+translated-char end f g m h =
+    same-counts g m {n = end - f} {n' = suc (end - (f + 1))} {f = f} {f' = f} (omega arith) refl
+    ∙ same-counts g (with_char m f (char_in m (g + char_in m f))) {n = end - (f + 1)} {n' = end - (f + 1)} {f = suc f} {f' = f + 1} refl (omega arith)
 
 -- what is translated in parts
 split : (i j f t : ℕ) (m : List ℕ) → translated (i + j) f t m ≡ translated j (f + i) t (translated i f t m)

@@ -3,7 +3,7 @@
 // Where they meet, the characters in the table go one by one, since each may change what is looked up next; those before and after it go by words.
 #![tactic(auto)]
 
-ghost use Rattle.std.specs.Prelude.{◌≡◌, true, ◌<◌, ◌≤◌, ◌+◌, ◌-◌, ◌^◌, min, length};
+ghost use Rattle.std.specs.Prelude.{◌≡◌, true, ◌<◌, ◌≤◌, ◌+◌, ◌^◌, length};
 ghost use Rattle.ops.specs.Machine.{cfp_a, max_memory};
 ghost use Rattle.rules.specs.Exec.{translated};
 ghost use Rattle.block_chars.specs.Chars.{Within};
@@ -19,13 +19,9 @@ fn translate_chars(m: &mut [u32], from: u32, to: u32, n: u32)
     requires { Within m.old from n × Within m.old to cfp_a × (length m.old ≤ max_memory) }
     ensures { m.new ≡ translated n from to m.old }
 {
-    let mut f = from;
-    let mut left = n;
-    while 0 < left {
+    for f in from..from + n {
         let ch = char_in(m, f);
         put_char(m, f, char_in(m, to + ch));
-        f += 1;
-        left -= 1;
     }
 }
 
@@ -51,25 +47,7 @@ fn clear(f: u32, n: u32, t: u32) -> bool
     requires { (f + n < 2 ^ 32) × (t + cfp_a < 2 ^ 32) }
     ensures { result ≡ true → Clear f n t }
 {
-    if t < f + n {
-        t + Machine::CFP_A <= f
-    } else {
-        true
-    }
-}
-
-// How far b lies above a, 0 if it does not.
-fn up_to(a: u32, b: u32) -> u32
-    ensures { result ≡ b - a }
-{
-    if a < b { b - a } else { 0 }
-}
-
-// The smaller of two numbers.
-fn least(a: u32, b: u32) -> u32
-    ensures { result ≡ min a b }
-{
-    if a < b { a } else { b }
+    f + n <= t || t + Machine::CFP_A <= f
 }
 
 // The same as translate_chars: by words before the table and after it, by characters in it.
@@ -81,9 +59,9 @@ pub fn translate(m: &mut [u32], from: u32, to: u32, n: u32)
         translate_apart(m, from, to, n);
         return;
     }
-    let below = least(n, up_to(from, to));
+    let below = n.min(to.saturating_sub(from));
     translate_apart(m, from, to, below);
-    let met = least(n - below, up_to(from + below, to + Machine::CFP_A));
+    let met = (n - below).min((to + Machine::CFP_A).saturating_sub(from + below));
     translate_chars(m, from + below, to, met);
     let done = below + met;
     translate_apart(m, from + done, to, n - done);

@@ -30,11 +30,9 @@ pub fn bodies(t: &[u32], n: usize, body: &mut [u32])
     ensures { Filled t.now n body.new }
 {
     let mut b: u32 = 0;
-    let mut p: usize = 0;
     body[0] = 0;
-    while p < n {
+    for p in 0..n {
         b = after_entry(t[HEADER + ENTRY * p], p as u32, b);
-        p += 1;
-        body[p] = b;
+        body[p + 1] = b;
     }
 }

@@ -1,10 +1,8 @@
 -- A word as it is written in an argument: decimal digits, of a number up to the largest word.
 -- Assumes nothing.
-use Rattle.std.specs.Prelude.{ℕ, List, leb}
+use Rattle.std.specs.Prelude.{ℕ, List, leb, Option, Some, None}
 use Rattle.language.specs.Text.{Parsed, number_of, parsed, parsed_if, unparsed}
 use Rattle.asm_types.specs.Views.{most_word}
-use Rattle.console.specs.declared.word.Word.{Word}
-use Rattle.console.specs.declared.word.Word.TheVariants.{Is, Not}
 
 -- a number that is a word
 abbrev pub fitting : Parsed → Parsed
@@ -15,6 +13,6 @@ fitting unparsed = unparsed
 abbrev pub word_of : List ℕ → Parsed
 word_of s = fitting (number_of s)
 
-abbrev pub word_view : Word → Parsed
-word_view (Is w) = parsed w
-word_view Not = unparsed
+abbrev pub word_view : Option ℕ → Parsed
+word_view (Some w) = parsed w
+word_view None = unparsed

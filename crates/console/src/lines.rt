@@ -10,10 +10,8 @@ fn line_from(text: &[u8], k: usize) -> usize
     ensures { (result ≤ length text.now) × (line_at (lines (drop result text.now)) 0 ≡ line_of text.now k) }
 {
     let mut at: usize = 0;
-    let mut i: usize = 0;
-    while i < k {
+    for _i in 0..k {
         at = line_behind(text, at);
-        i += 1;
     }
     at
 }

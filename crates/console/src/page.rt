@@ -1,61 +1,75 @@
 // A page: bytes that a message is put together in, so that it is written by one call, which is seen to succeed.
-ghost use Rattle.std.specs.Prelude.{◌-◌, ◌≤◌, min, ◌≡◌};
+ghost use Rattle.std.specs.Prelude.{◌≡◌, ◌≤◌, take};
 ghost use Rattle.console.specs.Page.{Puts};
 
 use crate::stream::fail;
-use io::{decimal, write_all};
+use io::{large_buffer, write_all};
+use std::fmt::{self, Write};
 
 // The number of the stream of errors.
 pub const STDERR_FILENO: i32 = 2;
 
-// n less k, or 0.
-fn less(n: usize, k: usize) -> usize
-    ensures { result ≡ n - k }
-{
-    if n < k { 0 } else { n - k }
-}
-
-// The smaller of two.
-fn smaller(a: usize, b: usize) -> usize
-    ensures { (result ≡ min a b) × (result ≤ a) × (result ≤ b) }
-{
-    if a < b { a } else { b }
-}
+// The bytes that a page holds.
+const ROOM: usize = 65536;
 
 // The text at byte at on, as much of it as fits. Answers the byte behind it.
 pub fn put(page: &mut [u8], at: usize, text: &[u8]) -> usize
     ensures { Puts page.old at text.now result page.new }
 {
-    let n = smaller(text.len(), less(page.len(), at));
-    let mut i: usize = 0;
-    while i < n {
+    let n = text.len().min(page.len().saturating_sub(at));
+    for i in 0..n {
         page[at + i] = text[i];
-        i += 1;
     }
     at + n
 }
 
-// A number in decimal digits at byte at on. Answers the byte behind them.
-pub fn put_number(page: &mut [u8], at: usize, n: u64) -> usize {
-    let mut digits = [0u8; 20];
-    let k = decimal(n, &mut digits);
-    put(page, at, &digits[..k])
+// The bytes that were put stand at the front.
+#[derive(Drop)]
+pub struct Page {
+    bytes: [u8; ROOM],
+    len: usize,
+    ghost within: { len ≤ 65536 },
 }
 
-// The front of a page on standard output; where that fails it is told on standard error.
-pub fn show<P: Print>(rt: &P, page: &[u8], n: usize) {
-    if page.len() < n {
-        return;
+impl Page {
+    pub fn new() -> Page {
+        Page {
+            bytes: large_buffer(),
+            len: 0,
+        }
     }
-    if let Err(error) = rt.write_all(&page[0..n]) {
-        fail(b"standard output", error);
+
+    // The text behind what was put, as much of it as fits.
+    pub fn put(&mut self, text: &[u8])
+        ensures { Puts self.old.bytes self.old.len text.now self.new.len self.new.bytes }
+    {
+        self.len = put(&mut self.bytes, self.len, text);
+    }
+
+    // What was put.
+    pub fn text(&self) -> &[u8]
+        ensures { result.now ≡ take self.now.len self.now.bytes }
+    {
+        &self.bytes[..self.len]
+    }
+
+    // What was put on standard output; where that fails it is told on standard error.
+    pub fn show<P: Print>(&self, rt: &P) {
+        if let Err(error) = rt.write_all(self.text()) {
+            fail(b"standard output", error);
+        }
+    }
+
+    // What was put on standard error.
+    pub fn complain(&self) {
+        write_all(STDERR_FILENO, self.text());
     }
 }
 
-// The front of a page on standard error.
-pub fn complain(page: &[u8], n: usize) {
-    if page.len() < n {
-        return;
+// What is written by `write!` is put, as much of it as fits.
+impl Write for Page {
+    fn write_str(&mut self, s: &str) -> fmt::Result {
+        self.put(s.as_bytes());
+        Ok(())
     }
-    write_all(STDERR_FILENO, &page[0..n]);
 }

@@ -1,10 +1,10 @@
 // What the system gives a program: files, the bytes of a stream, and its arguments; and why it refused something, on standard error.
-ghost use Rattle.std.specs.Prelude.{◌≤◌, length, IfOk};
+ghost use Rattle.std.specs.Prelude.{◌≡◌, ◌≤◌, length, take, IfOk};
 ghost use Rattle.io.specs.Counts.{IsPrefixLen};
 
 use crate::page::STDERR_FILENO;
 use asm_text::find_byte;
-use io::write_all;
+use io::{buffer, write_all};
 use std::env::FillError;
 use std::fs::OpenOptions;
 use std::io::{Cursor, Error, Read, Result, Write};
@@ -23,10 +23,7 @@ const EILSEQ: i32 = 84;
 
 // A path as the system's calls take it: text. No other name can be opened.
 pub fn text_of(path: &[u8]) -> Result<&str> {
-    match from_utf8(path) {
-        Ok(text) => Ok(text),
-        Err(_) => Err(Error::from_raw_os_error(EILSEQ)),
-    }
+    from_utf8(path).map_err(|_| Error::from_raw_os_error(EILSEQ))
 }
 
 // A file to be read.
@@ -35,6 +32,7 @@ pub fn open_read<R: Files>(rt: &R, path: &[u8]) -> Result<R::File> {
 }
 
 // Fills the room from its front until it is full, the stream ends or a read fails, and answers how many bytes it got.
+// It goes on by what a read got.
 pub fn read_full<R: Read>(stream: &mut R, room: &mut [u8]) -> usize
     ensures { IsPrefixLen result room.new }
 {
@@ -53,10 +51,7 @@ pub fn read_full<R: Read>(stream: &mut R, room: &mut [u8]) -> usize
 fn read_some<R: Read>(stream: &mut R, room: &mut [u8]) -> usize
     ensures { result ≤ length room.new }
 {
-    match stream.read(room) {
-        Ok(n) => n,
-        Err(_) => 0,
-    }
+    stream.read(room).unwrap_or(0)
 }
 
 // Why an argument could not be read.
@@ -71,19 +66,39 @@ fn error_of(why: FillError) -> Error {
 pub fn whole_arg<E: Env>(rt: &E, i: usize, room: &mut [u8]) -> Result<usize>
     ensures { IfOk result (λ n. IsPrefixLen n room.new) }
 {
-    match rt.arg(i, room) {
-        Ok(n) => Ok(n),
-        Err(why) => Err(error_of(why)),
-    }
+    rt.arg(i, room).map_err(error_of)
 }
 
 // Argument i at the front of the room: its length, or 0 where it is missing or longer than the room.
 pub fn arg<E: Env>(rt: &E, i: usize, room: &mut [u8]) -> usize
     ensures { IsPrefixLen result room.new }
 {
-    match rt.arg(i, room) {
-        Ok(n) => n,
-        Err(_) => 0,
+    rt.arg(i, room).unwrap_or(0)
+}
+
+// The bytes of the longest argument that is taken: no path has more.
+const ARGUMENT: usize = 4096;
+
+// An argument, an empty one where it is missing or has more bytes.
+#[derive(Drop)]
+pub struct Argument {
+    bytes: [u8; ARGUMENT],
+    len: usize,
+    ghost within: { len ≤ 4096 },
+}
+
+impl Argument {
+    // Argument i.
+    pub fn of<E: Env>(rt: &E, i: usize) -> Argument {
+        let mut bytes = buffer();
+        let len = arg(rt, i, &mut bytes);
+        Argument { bytes, len }
+    }
+
+    pub fn text(&self) -> &[u8]
+        ensures { result.now ≡ take self.now.len self.now.bytes }
+    {
+        &self.bytes[..self.len]
     }
 }
 
@@ -108,11 +123,8 @@ fn reason_length(text: &[u8]) -> usize
     ensures { result ≤ length text.now }
 {
     let end = find_byte(text, 0, b'(');
-    if end == 0 {
-        return 0;
-    }
     if end < text.len() {
-        return end - 1;
+        return end.saturating_sub(1);
     }
     end
 }
@@ -124,7 +136,7 @@ fn reason_of(error: &Error) -> ([u8; TEXT], usize)
     let mut page = Cursor::new([0u8; TEXT]);
     let _ = write!(page, "{error}");
     let n = page.position() as usize;
-    (page.into_inner(), if n < TEXT { n } else { TEXT })
+    (page.into_inner(), n.min(TEXT))
 }
 
 // A line on standard error: what failed, and why.

@@ -9,13 +9,6 @@ use asm_text::is_digit;
 // The largest word.
 const MOST_WORD: u64 = 4294967295;
 
-// A word, or none.
-#[derive(Clone, Copy)]
-pub enum Word {
-    Is(u32),
-    Not,
-}
-
 // A word with one more digit.
 fn with_digit(n: u64, b: u8) -> u64
     requires { (n ≤ most_word) × (is_digit b ≡ true) }
@@ -24,26 +17,23 @@ fn with_digit(n: u64, b: u8) -> u64
     10 * n + (b - b'0') as u64
 }
 
-// The word that a text's digits make.
-pub fn word_in(text: &[u8]) -> Word
+// The word that a text's digits make, digit by digit: `str::parse` would take a plus sign in front of them.
+pub fn word_in(text: &[u8]) -> Option<u32>
     ensures { word_view result ≡ word_of text.now }
 {
-    if text.len() == 0 {
-        return Word::Not;
+    if text.is_empty() {
+        return None;
     }
     let mut n: u64 = 0;
-    let mut i: usize = 0;
-    while i < text.len() {
-        let b = text[i];
-        if !is_digit(b) {
-            return Word::Not;
+    for b in text {
+        if !is_digit(*b) {
+            return None;
         }
-        let m = with_digit(n, b);
+        let m = with_digit(n, *b);
         if MOST_WORD < m {
-            return Word::Not;
+            return None;
         }
         n = m;
-        i += 1;
     }
-    Word::Is(n as u32)
+    Some(n as u32)
 }

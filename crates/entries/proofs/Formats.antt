@@ -17,7 +17,7 @@ use Rattle.ops.specs.Class.{none, class_code}
 use Rattle.ops.specs.Format.{Format, format_word, no_kind, place_kind, code_word}
 use Rattle.ops.specs.Lookup.{first_with, by_number, row_of_number, row_at, no_row}
 use Rattle.ops.specs.Ops.{Row, rows, class_in, cells_of}
-use Rattle.ops.specs.declared.lookup.Lookup.TheVariants as found
+use Rattle.std.specs.Prelude.{Some, None}
 use Rattle.ops.proofs.First.{row-known, first-sound}
 use Rattle.ops.proofs.Numbers.{row-of-number}
 use Rattle.ops.proofs.Formats.{row_words}
@@ -110,40 +110,40 @@ row_fields t p r =
     operand_ok t r.one (field t p 1) (field t p 2) (field t p 3) and operand_ok t r.two (field t p 4) (field t p 5) (field t p 6)
     and third_ok t r.three (field t p 7)
 
-fields_in : (t : List ℕ) (p : ℕ) (rs : List Row) (s j : ℕ) → first_with by_number (field t p 0) s rs ≡ found.Row j
+fields_in : (t : List ℕ) (p : ℕ) (rs : List Row) (s j : ℕ) → first_with by_number (field t p 0) s rs ≡ Some j
     → fields_ok t p rs ≡ row_fields t p (get_or rs (j - s) no_row)
 unfolding if fields_ok row_fields
 fields_in t p [] s j e = absurd (row-known (sym e))
 fields_in t p (r ∷ rs) s j e = go (fields_in t p rs (suc s) j) (eqb (field t p 0) r.number) refl
   where
-    go : (first_with by_number (field t p 0) (suc s) rs ≡ found.Row j → fields_ok t p rs ≡ row_fields t p (get_or rs (j - suc s) no_row)) → (b : Bool)
+    go : (first_with by_number (field t p 0) (suc s) rs ≡ Some j → fields_ok t p rs ≡ row_fields t p (get_or rs (j - suc s) no_row)) → (b : Bool)
         → eqb (field t p 0) r.number ≡ b → fields_ok t p (r ∷ rs) ≡ row_fields t p (get_or (r ∷ rs) (j - s) no_row)
     go ih true q =
-        let g : found.Row s ≡ found.Row j = rw q at e in
+        let g : Some s ≡ Some j = rw q at e in
         let g' : s ≡ j = cc in
         let z : j - s ≡ 0 = omega arith in
         rw (z, q) refl
     go ih false q =
-        let g : first_with by_number (field t p 0) (suc s) rs ≡ found.Row j = rw q at e in
+        let g : first_with by_number (field t p 0) (suc s) rs ≡ Some j = rw q at e in
         let z : j - s ≡ suc (j - suc s) = omega (arith, (first-sound by_number no_row (field t p 0) rs (suc s) j g).from) in
         rw (z, q) (ih g)
 
-fields-none : (t : List ℕ) (p : ℕ) (rs : List Row) (s : ℕ) → first_with by_number (field t p 0) s rs ≡ found.Unknown → fields_ok t p rs ≡ false
+fields-none : (t : List ℕ) (p : ℕ) (rs : List Row) (s : ℕ) → first_with by_number (field t p 0) s rs ≡ None → fields_ok t p rs ≡ false
 unfolding if fields_ok
 fields-none t p [] s e = refl
 fields-none t p (r ∷ rs) s e = go (fields-none t p rs (suc s)) (eqb (field t p 0) r.number) refl
   where
-    go : (first_with by_number (field t p 0) (suc s) rs ≡ found.Unknown → fields_ok t p rs ≡ false) → (b : Bool)
+    go : (first_with by_number (field t p 0) (suc s) rs ≡ None → fields_ok t p rs ≡ false) → (b : Bool)
         → eqb (field t p 0) r.number ≡ b → fields_ok t p (r ∷ rs) ≡ false
     go ih true q = absurd (row-known (rw q at e))
     go ih false q = rw q (ih (rw q at e))
 
-class-none : (k : ℕ) (rs : List Row) (s : ℕ) → first_with by_number k s rs ≡ found.Unknown → class_in k rs ≡ none
+class-none : (k : ℕ) (rs : List Row) (s : ℕ) → first_with by_number k s rs ≡ None → class_in k rs ≡ none
 unfolding if
 class-none k [] s e = refl
 class-none k (r ∷ rs) s e = go (class-none k rs (suc s)) (eqb k r.number) refl
   where
-    go : (first_with by_number k (suc s) rs ≡ found.Unknown → class_in k rs ≡ none) → (b : Bool) → eqb k r.number ≡ b
+    go : (first_with by_number k (suc s) rs ≡ None → class_in k rs ≡ none) → (b : Bool) → eqb k r.number ≡ b
         → class_in k (r ∷ rs) ≡ none
     go ih true q = absurd (row-known (rw q at e))
     go ih false q = rw q (ih (rw q at e))
@@ -153,18 +153,18 @@ unfolding field
 op_is t p = rw (add-zero (8 + 8 * p)) refl
 
 -- a row that is found is in the table
-pub row_inside : (n : ℕ) {i : ℕ} → row_of_number n ≡ found.Row i → i < 106
+pub row_inside : (n : ℕ) {i : ℕ} → row_of_number n ≡ Some i → i < 106
 row_inside n {i} e = rw (← rows-count) ((number-exactly n i).0 e).0
 
 -- the rules of an entry are those of the words of its row
-module _ (t : List ℕ) (p i : ℕ) (e : row_of_number (get_or t (8 + 8 * p) 0) ≡ found.Row i) where
+module _ (t : List ℕ) (p i : ℕ) (e : row_of_number (get_or t (8 + 8 * p) 0) ≡ Some i) where
   row-says : Ok (row_says i (row_at i))
   row-says = every-at row_says no_row rows all_say i ((number-exactly _ i).0 e).0
 
   pub fields-is : fields_ok t p rows ≡ fields_by t p (format_word (row_at i).one) (format_word (row_at i).two) (format_word (row_at i).three)
   unfolding fields_by row_fields row_says says row_of_number
   fields-is =
-      let g : first_with by_number (field t p 0) 0 rows ≡ found.Row i = rw (op_is t p) e in
+      let g : first_with by_number (field t p 0) 0 rows ≡ Some i = rw (op_is t p) e in
       let z : i - 0 ≡ i = omega arith in
       let f : fields_ok t p rows ≡ row_fields t p (row_at i) = fields_in t p rows 0 i g ∙ rw z refl in
       rw (f, operand-is _ _ (and_l _ _ row-says), operand-is _ _ (and_l _ _ (and_r _ _ row-says)), third-is _ _ (and_r _ _ (and_r _ _ row-says))) refl
@@ -188,11 +188,11 @@ module _ (t : List ℕ) (p i : ℕ) (e : row_of_number (get_or t (8 + 8 * p) 0) 
     class-cells l = rw q (class_is l)
 
 -- an operation that no row has
-module _ (t : List ℕ) (p : ℕ) (e : row_of_number (get_or t (8 + 8 * p) 0) ≡ found.Unknown) where
+module _ (t : List ℕ) (p : ℕ) (e : row_of_number (get_or t (8 + 8 * p) 0) ≡ None) where
   pub fields-unknown : fields_ok t p rows ≡ false
   unfolding row_of_number
   fields-unknown =
-      let g : first_with by_number (field t p 0) 0 rows ≡ found.Unknown = rw (op_is t p) e in fields-none t p rows 0 g
+      let g : first_with by_number (field t p 0) 0 rows ≡ None = rw (op_is t p) e in fields-none t p rows 0 g
 
   pub entry-unknown : entry_ok t p ≡ false
   unfolding entry_ok ◌and◌

@@ -17,7 +17,6 @@ use op_lookup::numbers::{NumberIndex, find_number, number_index};
 use ops::class::NO_CLASS;
 use ops::constants::Machine;
 use ops::format::*;
-use ops::lookup::Lookup;
 use ops::table::{CELLS, ONE, Operations, THREE, TWO};
 use table_layout::{ENTRY, HEADER, index, sum};
 
@@ -255,7 +254,7 @@ fn entry_by(table: &[u32], p: usize, row: &[u8; CELLS]) -> bool
 }
 
 // The row of the operation at place p.
-pub fn row_at(table: &[u32], numbers: &NumberIndex, p: usize) -> Lookup
+pub fn row_at(table: &[u32], numbers: &NumberIndex, p: usize) -> Option<usize>
     requires { Laid table.now × (p < get_or table.now 0 0) × IndexOf numbers.now }
     ensures { result ≡ row_of_number (get_or table.now (8 + 8 * p) 0) }
 {
@@ -269,17 +268,14 @@ pub fn fields_ok(table: &[u32], list: &Operations, classes: &mut [u32]) -> bool
 {
     let n = index(table[0]);
     let numbers = number_index(list);
-    let mut p: usize = 0;
-    while p < n {
-        let found = row_at(table, &numbers, p);
-        let Lookup::Row(i) = found else {
+    for p in 0..n {
+        let Some(i) = row_at(table, &numbers, p) else {
             return false;
         };
         if !entry_by(table, p, &list[i]) {
             return false;
         }
         classes[p] = class_of(&list[i]);
-        p += 1;
     }
     classes[n] = NO_CLASS;
     true

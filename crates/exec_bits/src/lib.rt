@@ -1,5 +1,6 @@
 // Bits and conversions: ANB, ORB, XOB, CMB, RSH, LSH, RSX, LSX, WTB, BTW, CTW, CTB, WTC, and CSC, ZGB, BTC, which do nothing.
 // Each answers 64 + the offset of the next entry, or 22, which leaves the registers as they were.
+// Each has a function, also where two do the same (RSH and RSX): `dispatch` calls it from one arm, and so it is folded into the loop.
 #![tactic(auto)]
 
 ghost use Rattle.std.specs.Prelude.{◌≡◌, ◌≤◌, ◌+◌, length};
@@ -11,8 +12,8 @@ ghost use Rattle.exec_core.specs.Views.{operand_at};
 ghost use Rattle.exec_core.specs.Entry.{Entry, Sound, readable, in_register, held_here, going};
 ghost use Rattle.exec_bits.specs.Registers.{Holds, Puts, AnyMemory, AnyConstants, Idle};
 
+use exec_core::Answer;
 use exec_core::operands::{act, fetch, index, joined, operand};
-use exec_core::{Answer, Fetched};
 
 // What the register holds whose operand stands in the table from i on.
 fn register(t: &[u32], i: usize, z: &[u32; 16]) -> u32
@@ -59,8 +60,7 @@ pub fn anb(t: &[u32], b: usize, m: &[u32], z: &mut [u32; 16]) -> usize
     ensures { AnyConstants result z.new t.now b z.old m.now Op.ANB }
 {
     let one = operand(t, b + 1);
-    let f = fetch(m, z, one);
-    let Fetched::Got(v) = f else {
+    let Some(v) = fetch(m, z, one) else {
         return Answer::BAD_ADDRESS;
     };
     act(z, one);
@@ -74,8 +74,7 @@ pub fn orb(t: &[u32], b: usize, m: &[u32], z: &mut [u32; 16]) -> usize
     ensures { AnyConstants result z.new t.now b z.old m.now Op.ORB }
 {
     let one = operand(t, b + 1);
-    let f = fetch(m, z, one);
-    let Fetched::Got(v) = f else {
+    let Some(v) = fetch(m, z, one) else {
         return Answer::BAD_ADDRESS;
     };
     act(z, one);
@@ -89,8 +88,7 @@ pub fn xob(t: &[u32], b: usize, m: &[u32], z: &mut [u32; 16]) -> usize
     ensures { AnyConstants result z.new t.now b z.old m.now Op.XOB }
 {
     let one = operand(t, b + 1);
-    let f = fetch(m, z, one);
-    let Fetched::Got(v) = f else {
+    let Some(v) = fetch(m, z, one) else {
         return Answer::BAD_ADDRESS;
     };
     act(z, one);

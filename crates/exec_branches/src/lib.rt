@@ -1,5 +1,6 @@
 // Branches: BEQ to BHI, BNZ, BZE, BCT, CEQ, CNE, NZB, ZRB, and the tests of IA and its flag.
 // Each answers 64 + the offset of the next entry or of the place that it branches to, or 22, which leaves the registers as they were.
+// Each has a function, also where two do the same (BLT and BLO): `dispatch` calls it from one arm, and so it is folded into the loop.
 #![tactic(auto)]
 
 ghost use Rattle.std.specs.Prelude.{◌≡◌, ◌<◌, ◌≤◌, ◌+◌, length};
@@ -14,19 +15,12 @@ ghost use Rattle.exec_core.specs.Views.{operand_at, branches, way_of};
 ghost use Rattle.exec_core.specs.Entry.{Entry, readable, is_place, in_register, going, branching};
 ghost use Rattle.exec_branches.specs.Tests.{Tells, Compares, AnyMemory};
 
+use exec_core::Answer;
 use exec_core::operands::{act, fetch, index, operand, to_first, to_second, to_third};
-use exec_core::{Answer, Fetched};
 use ops::constants::Machine;
 
 // The first word that is negative when read as signed.
 const HALF: u32 = 1 << Machine::CFP_N - 1;
-
-// What both operands hold.
-#[derive(Clone, Copy)]
-pub enum Both {
-    Words(u32, u32),
-    Neither,
-}
 
 // The answer that branches to operand one, two or three if q holds, and else goes on.
 pub fn first_if(t: &[u32], b: usize, q: bool) -> usize
@@ -60,40 +54,33 @@ fn third_if(t: &[u32], b: usize, q: bool) -> usize
 }
 
 // What operand one holds, which then acts.
-fn taken(t: &[u32], b: usize, m: &[u32], z: &mut [u32; 16]) -> Fetched
+fn taken(t: &[u32], b: usize, m: &[u32], z: &mut [u32; 16]) -> Option<u32>
     requires { Entry readable is_place going t.now b z.old }
     ensures { Tells result z.new z.old m.now (operand_at t.now (b + 1)) }
 {
     let one = operand(t, b + 1);
-    let f = fetch(m, z, one);
-    let Fetched::Got(v) = f else {
-        return Fetched::Missing;
-    };
+    let v = fetch(m, z, one)?;
     act(z, one);
-    Fetched::Got(v)
+    Some(v)
 }
 
 // What both operands hold, which then have acted; where one holds nothing, neither has.
-fn compared(t: &[u32], b: usize, m: &[u32], z: &mut [u32; 16]) -> Both
+fn compared(t: &[u32], b: usize, m: &[u32], z: &mut [u32; 16]) -> Option<(u32, u32)>
     requires { Entry readable readable branching t.now b z.old }
     ensures { Compares result z.new z.old m.now (operand_at t.now (b + 1)) (operand_at t.now (b + 4)) }
 {
     let one = operand(t, b + 1);
     let two = operand(t, b + 4);
-    let f = fetch(m, z, one);
-    let Fetched::Got(v) = f else {
-        return Both::Neither;
-    };
+    let v = fetch(m, z, one)?;
     let x = index(one.reg);
     let old = z[x];
     act(z, one);
-    let g = fetch(m, z, two);
-    let Fetched::Got(w) = g else {
+    let Some(w) = fetch(m, z, two) else {
         z[x] = old;
-        return Both::Neither;
+        return None;
     };
     act(z, two);
-    Both::Words(v, w)
+    Some((v, w))
 }
 
 // [M 2.5] BEQ: to the third operand if operand one equals operand two
@@ -101,8 +88,7 @@ pub fn beq(t: &[u32], b: usize, m: &[u32], z: &mut [u32; 16]) -> usize
     requires { Entry readable readable branching t.now b z.old }
     ensures { shown result z.new m.now ≡ branches t.now b 0 0 z.old m.now Op.BEQ }
 {
-    let p = compared(t, b, m, z);
-    let Both::Words(v, w) = p else {
+    let Some((v, w)) = compared(t, b, m, z) else {
         return Answer::BAD_ADDRESS;
     };
     third_if(t, b, v == w)
@@ -113,8 +99,7 @@ pub fn bne(t: &[u32], b: usize, m: &[u32], z: &mut [u32; 16]) -> usize
     requires { Entry readable readable branching t.now b z.old }
     ensures { shown result z.new m.now ≡ branches t.now b 0 0 z.old m.now Op.BNE }
 {
-    let p = compared(t, b, m, z);
-    let Both::Words(v, w) = p else {
+    let Some((v, w)) = compared(t, b, m, z) else {
         return Answer::BAD_ADDRESS;
     };
     third_if(t, b, v != w)
@@ -125,8 +110,7 @@ pub fn bgt(t: &[u32], b: usize, m: &[u32], z: &mut [u32; 16]) -> usize
     requires { Entry readable readable branching t.now b z.old }
     ensures { shown result z.new m.now ≡ branches t.now b 0 0 z.old m.now Op.BGT }
 {
-    let p = compared(t, b, m, z);
-    let Both::Words(v, w) = p else {
+    let Some((v, w)) = compared(t, b, m, z) else {
         return Answer::BAD_ADDRESS;
     };
     third_if(t, b, w < v)
@@ -137,8 +121,7 @@ pub fn bge(t: &[u32], b: usize, m: &[u32], z: &mut [u32; 16]) -> usize
     requires { Entry readable readable branching t.now b z.old }
     ensures { shown result z.new m.now ≡ branches t.now b 0 0 z.old m.now Op.BGE }
 {
-    let p = compared(t, b, m, z);
-    let Both::Words(v, w) = p else {
+    let Some((v, w)) = compared(t, b, m, z) else {
         return Answer::BAD_ADDRESS;
     };
     third_if(t, b, w <= v)
@@ -149,8 +132,7 @@ pub fn blt(t: &[u32], b: usize, m: &[u32], z: &mut [u32; 16]) -> usize
     requires { Entry readable readable branching t.now b z.old }
     ensures { shown result z.new m.now ≡ branches t.now b 0 0 z.old m.now Op.BLT }
 {
-    let p = compared(t, b, m, z);
-    let Both::Words(v, w) = p else {
+    let Some((v, w)) = compared(t, b, m, z) else {
         return Answer::BAD_ADDRESS;
     };
     third_if(t, b, v < w)
@@ -161,8 +143,7 @@ pub fn ble(t: &[u32], b: usize, m: &[u32], z: &mut [u32; 16]) -> usize
     requires { Entry readable readable branching t.now b z.old }
     ensures { shown result z.new m.now ≡ branches t.now b 0 0 z.old m.now Op.BLE }
 {
-    let p = compared(t, b, m, z);
-    let Both::Words(v, w) = p else {
+    let Some((v, w)) = compared(t, b, m, z) else {
         return Answer::BAD_ADDRESS;
     };
     third_if(t, b, v <= w)
@@ -173,8 +154,7 @@ pub fn blo(t: &[u32], b: usize, m: &[u32], z: &mut [u32; 16]) -> usize
     requires { Entry readable readable branching t.now b z.old }
     ensures { shown result z.new m.now ≡ branches t.now b 0 0 z.old m.now Op.BLO }
 {
-    let p = compared(t, b, m, z);
-    let Both::Words(v, w) = p else {
+    let Some((v, w)) = compared(t, b, m, z) else {
         return Answer::BAD_ADDRESS;
     };
     third_if(t, b, v < w)
@@ -185,8 +165,7 @@ pub fn bhi(t: &[u32], b: usize, m: &[u32], z: &mut [u32; 16]) -> usize
     requires { Entry readable readable branching t.now b z.old }
     ensures { shown result z.new m.now ≡ branches t.now b 0 0 z.old m.now Op.BHI }
 {
-    let p = compared(t, b, m, z);
-    let Both::Words(v, w) = p else {
+    let Some((v, w)) = compared(t, b, m, z) else {
         return Answer::BAD_ADDRESS;
     };
     third_if(t, b, w < v)
@@ -197,8 +176,7 @@ pub fn bnz(t: &[u32], b: usize, m: &[u32], z: &mut [u32; 16]) -> usize
     requires { Entry readable is_place going t.now b z.old }
     ensures { shown result z.new m.now ≡ branches t.now b 0 0 z.old m.now Op.BNZ }
 {
-    let f = taken(t, b, m, z);
-    let Fetched::Got(v) = f else {
+    let Some(v) = taken(t, b, m, z) else {
         return Answer::BAD_ADDRESS;
     };
     second_if(t, b, v != 0)
@@ -209,8 +187,7 @@ pub fn bze(t: &[u32], b: usize, m: &[u32], z: &mut [u32; 16]) -> usize
     requires { Entry readable is_place going t.now b z.old }
     ensures { shown result z.new m.now ≡ branches t.now b 0 0 z.old m.now Op.BZE }
 {
-    let f = taken(t, b, m, z);
-    let Fetched::Got(v) = f else {
+    let Some(v) = taken(t, b, m, z) else {
         return Answer::BAD_ADDRESS;
     };
     second_if(t, b, v == 0)
@@ -297,8 +274,7 @@ pub fn ceq(t: &[u32], b: usize, m: &[u32], z: &mut [u32; 16]) -> usize
     requires { Entry readable readable branching t.now b z.old }
     ensures { shown result z.new m.now ≡ branches t.now b 0 0 z.old m.now Op.CEQ }
 {
-    let p = compared(t, b, m, z);
-    let Both::Words(v, w) = p else {
+    let Some((v, w)) = compared(t, b, m, z) else {
         return Answer::BAD_ADDRESS;
     };
     third_if(t, b, v == w)
@@ -309,8 +285,7 @@ pub fn cne(t: &[u32], b: usize, m: &[u32], z: &mut [u32; 16]) -> usize
     requires { Entry readable readable branching t.now b z.old }
     ensures { shown result z.new m.now ≡ branches t.now b 0 0 z.old m.now Op.CNE }
 {
-    let p = compared(t, b, m, z);
-    let Both::Words(v, w) = p else {
+    let Some((v, w)) = compared(t, b, m, z) else {
         return Answer::BAD_ADDRESS;
     };
     third_if(t, b, v != w)
@@ -321,8 +296,7 @@ pub fn nzb(t: &[u32], b: usize, m: &[u32], z: &mut [u32; 16]) -> usize
     requires { Entry readable is_place going t.now b z.old }
     ensures { shown result z.new m.now ≡ branches t.now b 0 0 z.old m.now Op.NZB }
 {
-    let f = taken(t, b, m, z);
-    let Fetched::Got(v) = f else {
+    let Some(v) = taken(t, b, m, z) else {
         return Answer::BAD_ADDRESS;
     };
     second_if(t, b, v != 0)
@@ -333,8 +307,7 @@ pub fn zrb(t: &[u32], b: usize, m: &[u32], z: &mut [u32; 16]) -> usize
     requires { Entry readable is_place going t.now b z.old }
     ensures { shown result z.new m.now ≡ branches t.now b 0 0 z.old m.now Op.ZRB }
 {
-    let f = taken(t, b, m, z);
-    let Fetched::Got(v) = f else {
+    let Some(v) = taken(t, b, m, z) else {
         return Answer::BAD_ADDRESS;
     };
     second_if(t, b, v == 0)

@@ -13,8 +13,8 @@ ghost use Rattle.exec_calls.specs.Stands.{Stands, Calls, Few, Open};
 ghost use Rattle.exec_calls.specs.Shows.{AnyCore, Leaves, Cuts, TakesExit};
 
 use bodies::entry::{ENTRY, HEADER, KIND, PPM, SIZE, VALUE};
+use exec_core::Answer;
 use exec_core::operands::{act, fetch, index, operand};
-use exec_core::{Answer, Fetched};
 use ops::constants::Machine;
 use ops::format::{EXTERNAL_KIND, PLACE_KIND};
 
@@ -108,8 +108,7 @@ pub fn sss(t: &[u32], b: usize, m: &[u32], z: &mut [u32; 16], links: &mut [u32; 
     ensures { Cuts result z.new links.new t.now b z.old m.now links.old Class.SSS Op.reads }
 {
     let one = operand(t, b + 1);
-    let f = fetch(m, z, one);
-    let Fetched::Got(v) = f else {
+    let Some(v) = fetch(m, z, one) else {
         return Answer::BAD_ADDRESS;
     };
     if links[Machine::MAX_LINKS] < v {

@@ -9,9 +9,9 @@ ghost use Rattle.exec_core.specs.Views.{does};
 ghost use Rattle.exec_core.specs.Entry.{Entry, readable, in_register, pointing, going};
 ghost use Rattle.exec_chars.specs.Characters.{AnyConstants};
 
+use exec_core::Answer;
 use exec_core::chars::{char_act, fetch_char, store_char};
 use exec_core::operands::{act, fetch, index, operand};
-use exec_core::{Answer, Fetched};
 use ops::constants::Machine;
 
 // Register one := itself + CFP$F + operand two, wrapped: the address of that character.
@@ -21,8 +21,7 @@ fn point(t: &[u32], b: usize, m: &[u32], z: &mut [u32; 16]) -> usize
 {
     let one = operand(t, b + 1);
     let two = operand(t, b + 4);
-    let f = fetch(m, z, two);
-    let Fetched::Got(v) = f else {
+    let Some(v) = fetch(m, z, two) else {
         return Answer::BAD_ADDRESS;
     };
     act(z, two);
@@ -54,8 +53,7 @@ pub fn lch(t: &[u32], b: usize, m: &[u32], z: &mut [u32; 16]) -> usize
 {
     let one = operand(t, b + 1);
     let two = operand(t, b + 4);
-    let f = fetch_char(m, z, two);
-    let Fetched::Got(v) = f else {
+    let Some(v) = fetch_char(m, z, two) else {
         return Answer::BAD_ADDRESS;
     };
     char_act(z, two);

@@ -4,7 +4,6 @@ use Prim.Native.Nat.{ℕ, zero, suc, ◌+◌, ◌*◌, ◌-◌, ◌/◌, ◌%◌
 use mathlib.Core.Path.{◌≡◌, refl, sym, ap, subst, ◌∙◌}
 use mathlib.Core.List.{List}
 use native.Mathlib.Omega.{arith}
-use native.Mathlib.Numerals.{add-one}
 use lib.Dec.{eqb}
 use lib.ListN.{length, set}
 use borrow.Author.Tests.{ne_eqb}
@@ -26,7 +25,8 @@ use Rattle.rules.proofs.Facts.{executable-in-table}
 use Rattle.bodies.proofs.Places.{class_of, class-past}
 use Rattle.exec_core.specs.Views.{operand_at}
 use Rattle.exec_core.specs.Seen.{seen, stepped}
-use Rattle.exec_core.proofs.Laws.{toward-suc}
+use Rattle.std.specs.Prelude.{Option, Some, None}
+use Rattle.exec_control.specs.Found.{found_of}
 use Rattle.exec_control.specs.Shows.{Loads}
 use Rattle.exec_calls.proofs.Places.{header}
 use Rattle.exec_control.proofs.Jumps.{jumps-or, register-at}
@@ -59,11 +59,10 @@ module _ (t : List ℕ) (v : ℕ) where
       unfolding is_entry
       entry_other h k = none-by (λ o. k (Numbers.number-of (t at (8 + 8 * q)) (executes ENT) passed (rw (place_is, class_of t q h) at (and_r _ _ o))))
 
-      pub entry_found : a % 4 ≡ 0 → q < size t → t at (8 + 8 * q) ≡ 106 → q + 1 ≡ entry_of t v
+      pub entry_found : a % 4 ≡ 0 → q < size t → t at (8 + 8 * q) ≡ 106 → suc q ≡ entry_of t v
       unfolding entry_of is_entry
       entry_found m h k =
-          add-one q
-          ∙ sym
+          sym
           (if-true (is_entry t v) _ 0
           (and_i _ _ (eq-ok v (1073741824 + 4 * entry_place v) (rw place_is (omega arith)))
           (subst (λ (c : Class). Ok (is c (executes ENT))) (sym (ap (class_at t) place_is ∙ class_of t q h ∙ ap (λ (x : ℕ). class_in x rows) k ∙ Numbers.class_of (executes ENT) passed)) passed))
@@ -74,43 +73,40 @@ few-by : (t : List ℕ) (ok : Ok (table_ok t)) (x : ℕ) → EntryOk t ok x → 
 few-by t ok zero h = omega arith
 few-by t ok (suc q) h = omega (arith, executable-in-table t q h.0)
 
-pub record Listed (t : List ℕ) (x : ℕ) : Type 0 where
-  pub few : x ≤ 1024
-  pub inside : 8 * x + 8 ≤ length t
+pub record Listed (t : List ℕ) (q : ℕ) : Type 0 where
+  pub few : q < 1024
+  pub inside : 8 * q + 16 ≤ length t
 
-pub entry-few : (t : List ℕ) → Ok (table_ok t) → (v x : ℕ) → x ≡ entry_of t v → Listed t x
+pub entry-few : (t : List ℕ) → Ok (table_ok t) → (v q : ℕ) {p : Option ℕ} → found_of p ≡ entry_of t v → p ≡ Some q → Listed t q
 unfolding size
-entry-few t ok v x q =
-    let e : x ≤ t at 0 = subst (λ (y : ℕ). y ≤ t at 0) (sym q) (few-by t ok (entry_of t v) (entry-ok t ok v)) in
+entry-few t ok v q f k =
+    let e : suc q ≤ t at 0 = subst (λ (y : ℕ). y ≤ t at 0) (sym f ∙ ap found_of k) (few-by t ok (entry_of t v) (entry-ok t ok v)) in
     let h = header t ok in
-    record { few = omega (arith, h.few); inside = omega (arith, h.long) }
+    record { few = omega (arith, e, h.few); inside = omega (arith, e, h.long) }
 
--- LEI by the register x, whose word is the label of the entry e - 1
-lei-is : (t z m : List ℕ) (r x : ℕ) → (x ≡ 0 → ⊥)
-    → lei_by t z m r x ≡ if (eqb (t at (8 * x + 1)) 1) (done (set z r (t at (8 * x + 3))) m 0) (trap no_entry)
+-- LEI by the register r, whose word is the label of the entry q
+lei-is : (t z m : List ℕ) (r q : ℕ)
+    → lei_by t z m r (suc q) ≡ if (eqb (t at (8 + 8 * q + 1)) 1) (done (set z r (t at (8 + 8 * q + 3))) m 0) (trap no_entry)
 unfolding field value
-lei-is t z m r zero h = absurd (h refl)
-lei-is t z m r (suc q) h = let e : 8 * suc q ≡ 8 + 8 * q = omega arith in rw e refl
+lei-is t z m r q = refl
 
-module _ (t z : List ℕ) (b x e : ℕ) (reg : x ≡ t at (b + 2)) (found : e ≡ entry_of t (z at x)) where
-  effect_is : (m : List ℕ) → lei_of t z m (operand_at t (b + 1)) ≡ lei_by t z m x e
+module _ (t z : List ℕ) (b x : ℕ) (reg : x ≡ t at (b + 2)) (p : Option ℕ) (found : found_of p ≡ entry_of t (z at x)) where
+  effect_is : (m : List ℕ) → lei_of t z m (operand_at t (b + 1)) ≡ lei_by t z m x (found_of p)
   unfolding lei_of
   effect_is m = rw (register-at t b, ← reg, ← found) refl
 
-  pub lei-missing : e ≡ 0 → Loads 24 z t b z LEI
+  pub lei-missing : p ≡ None → Loads 24 z t b z LEI
   lei-missing h c m = rw (effect_is m, h) refl
 
-  pub lei-unvalued : (e ≡ 0 → ⊥) → (t at (8 * e + 1) ≡ 1 → ⊥) → Loads 24 z t b z LEI
+  pub lei-unvalued : {q : ℕ} → p ≡ Some q → (t at (8 + 8 * q + 1) ≡ 1 → ⊥) → Loads 24 z t b z LEI
   unfolding if
-  lei-unvalued h k c m = rw (effect_is m, lei-is t z m x e h, ne_eqb _ 1 k) refl
+  lei-unvalued {q} h k c m = rw (effect_is m, h, lei-is t z m x q, ne_eqb _ 1 k) refl
 
-  pub lei-loads : (e ≡ 0 → ⊥) → t at (8 * e + 1) ≡ 1 → Loads (b + 72) (set z x (t at (8 * e + 3))) t b z LEI
+  pub lei-loads : {q : ℕ} → p ≡ Some q → t at (8 + 8 * q + 1) ≡ 1 → Loads (b + 72) (set z x (t at (8 + 8 * q + 3))) t b z LEI
   unfolding if
-  lei-loads h k c m = rw (effect_is m, lei-is t z m x e h, k) refl
+  lei-loads {q} h k c m = rw (effect_is m, h, lei-is t z m x q, k) refl
 
--- BRI to the entry e - 1
-pub bri-goes : (t : List ℕ) (s : State) (z m : List ℕ) (ls : List Link) (b e : ℕ) → (e ≡ 0 → ⊥)
-    → seen (8 * e + 64) z m ls ≡ stepped s (land t s (record { words = z; mem = m }) (jump_or (halt no_entry) e ls))
-bri-goes t s z m ls b zero h = absurd (h refl)
-bri-goes t s z m ls b (suc q) h =
-    ap (λ (r : ℕ). seen r z m ls) (toward-suc b (suc q) (omega arith)) ∙ jumps-or t s z m ls (halt no_entry) b (suc q) (omega arith)
+-- BRI to the entry q
+pub bri-goes : (t : List ℕ) (s : State) (z m : List ℕ) (ls : List Link) (b q : ℕ)
+    → seen (8 * q + 72) z m ls ≡ stepped s (land t s (record { words = z; mem = m }) (jump_or (halt no_entry) (suc q) ls))
+bri-goes t s z m ls b q = jumps-or t s z m ls (halt no_entry) b (suc q) (omega arith)

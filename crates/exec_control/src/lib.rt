@@ -10,13 +10,14 @@ ghost use Rattle.ops.specs.Ops as Op;
 ghost use Rattle.rules.specs.Check.{table_ok};
 ghost use Rattle.rules.specs.Table.{entry_of};
 ghost use Rattle.exec_calls.specs.Stands.{Stands};
+ghost use Rattle.exec_control.specs.Found.{found_of};
 ghost use Rattle.exec_control.specs.Roomy.{Roomy};
 ghost use Rattle.exec_control.specs.Shows.{AnyState, AnyMemory, AnyLinks, Loads};
 
 use bodies::entry::{ENTRY, HEADER, IFF, KIND, SIZE, VALUE};
 use exec_calls::{to_errors, to_place};
+use exec_core::Answer;
 use exec_core::operands::{act, fetch, index, operand, to_first, to_third};
-use exec_core::{Answer, Fetched};
 use ops::constants::Machine;
 use ops::format::VALUE_KIND;
 
@@ -89,26 +90,26 @@ pub fn chk(t: &[u32], b: usize, m: &[u32], z: &[u32; 16]) -> usize
     b + Answer::ON
 }
 
-// 1 + the place of the ENT whose label has the value v, or 0.
-fn entry_of(t: &[u32], v: u32) -> usize
+// The place of the ENT whose label has the value v.
+fn entry_of(t: &[u32], v: u32) -> Option<usize>
     requires { Ok (table_ok t.now) }
-    ensures { result ≡ entry_of t.now v }
+    ensures { found_of result ≡ entry_of t.now v }
 {
     if v < Machine::ENTRY_BASE {
-        return 0;
+        return None;
     }
     let a = index(v - Machine::ENTRY_BASE);
     if a % CFP_B != 0 {
-        return 0;
+        return None;
     }
     let q = a / CFP_B;
     if index(t[SIZE]) <= q {
-        return 0;
+        return None;
     }
     if t[HEADER + ENTRY * q] != ENT {
-        return 0;
+        return None;
     }
-    q + 1
+    Some(q)
 }
 
 // [M 1.8] LEI: X takes the value of the ENT whose label it holds, or 24
@@ -117,11 +118,10 @@ pub fn lei(t: &[u32], b: usize, z: &mut [u32; 16]) -> usize
     ensures { Loads result z.new t.now b z.old Op.LEI }
 {
     let x = index(t[b + REGISTER]);
-    let e = entry_of(t, z[x]);
-    if e == 0 {
+    let Some(q) = entry_of(t, z[x]) else {
         return Answer::NO_ENTRY;
-    }
-    let i = ENTRY * e;
+    };
+    let i = HEADER + ENTRY * q;
     if t[i + KIND] != VALUE_KIND {
         return Answer::NO_ENTRY;
     }
@@ -135,16 +135,14 @@ pub fn bri(t: &[u32], b: usize, m: &[u32], z: &mut [u32; 16]) -> usize
     ensures { AnyLinks result z.new t.now b z.old m.now Class.BRI Op.reads }
 {
     let one = operand(t, b + 1);
-    let f = fetch(m, z, one);
-    let Fetched::Got(v) = f else {
+    let Some(v) = fetch(m, z, one) else {
         return Answer::BAD_ADDRESS;
     };
-    let e = entry_of(t, v);
-    if e == 0 {
+    let Some(q) = entry_of(t, v) else {
         return Answer::NO_ENTRY;
-    }
+    };
     act(z, one);
-    Answer::ENTRY * e + Answer::BASE
+    Answer::ENTRY * q + Answer::ON
 }
 
 // [M 1.3] BSW: to the place of the IFF that has X's value, else to operand three, else 25
@@ -153,6 +151,7 @@ pub fn bsw(t: &[u32], b: usize, z: &[u32; 16]) -> usize
     ensures { AnyMemory result z.now t.now b z.now Class.BSW Op.reads }
 {
     let v = z[index(t[b + REGISTER])];
+    // entry by entry as long as they are cases: their number stands nowhere
     let mut i = b + ENTRY;
     while t[i] == IFF {
         if t[i + VALUE] == v {
@@ -160,7 +159,8 @@ pub fn bsw(t: &[u32], b: usize, z: &[u32; 16]) -> usize
         }
         i += ENTRY;
     }
-    if t[b + THIRD] == 0 {
+    let third = t[b + THIRD];
+    if third == 0 {
         return Answer::NO_CASE;
     }
     to_third(t, b)

@@ -14,8 +14,7 @@ use Rattle.rules.specs.Number.{bad_address, trap_number}
 use Rattle.rules.specs.Effect.{shown}
 use Rattle.rules.specs.Operand.{Operand, moved_of, fetch_of, given}
 use Rattle.rules.specs.Exec.{loads}
-use Rattle.exec_core.specs.declared.Fetched.{Fetched}
-use Rattle.exec_core.specs.declared.Fetched.TheVariants.{Got, Missing}
+use Rattle.std.specs.Prelude.{Option, Some, None}
 use Rattle.exec_core.specs.Entry.{Sound, steady}
 use Rattle.exec_core.specs.Views.{fetched_of, answered}
 use Rattle.exec_core.proofs.Laws.{moved-still}
@@ -27,12 +26,12 @@ steady-still n z o s =
     sym (moved-still n z o s (λ e. failed (subst (λ (k : ℕ). Ok (steady k)) e s.taken)) (λ e. failed (subst (λ (k : ℕ). Ok (steady k)) e s.taken)))
 
 -- an operation that loads: its operand is missing; or got, and y are the words once it has moved
-module _ (w : ℕ → ℕ) (z m : List ℕ) (o : Operand) (f : List ℕ → ℕ → List ℕ) {r : Fetched} where
-  pub load-missing : fetched_of r ≡ fetch_of z m o → r ≡ Missing → shown (trap_number bad_address) z m ≡ answered w z m (loads z m o f)
+module _ (w : ℕ → ℕ) (z m : List ℕ) (o : Operand) (f : List ℕ → ℕ → List ℕ) {r : Option ℕ} where
+  pub load-missing : fetched_of r ≡ fetch_of z m o → r ≡ None → shown (trap_number bad_address) z m ≡ answered w z m (loads z m o f)
   unfolding loads given
   load-missing e h = rw (← e, h)
 
-  pub load-got : {v : ℕ} {y z' : List ℕ} → fetched_of r ≡ fetch_of z m o → r ≡ Got v → y ≡ moved_of cfp_b z o → z' ≡ f y v → shown (w 0) z' m ≡ answered w z m (loads z m o f)
+  pub load-got : {v : ℕ} {y z' : List ℕ} → fetched_of r ≡ fetch_of z m o → r ≡ Some v → y ≡ moved_of cfp_b z o → z' ≡ f y v → shown (w 0) z' m ≡ answered w z m (loads z m o f)
   unfolding loads given
   load-got {v} {y} {z'} e h k j = rw (← e, h) (ap (λ (l : List ℕ). shown (w 0) l m) (j ∙ ap (λ (l : List ℕ). f l v) k))
 

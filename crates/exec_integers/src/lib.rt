@@ -1,5 +1,6 @@
 // Integers: LDI, ADI, MLI, SBI, DVI, RMI, STI, NGI, MTI, MFI, CVM, CVD. The accumulator IA and the overflow flag are words of z.
 // Each answers 64 + the offset of the next entry, or 22, 23 or 29, which leave registers and memory as they were.
+// Sum, product and the rest are a function each, with no parameter for which: `dispatch` calls it from one arm, and so it is folded into the loop.
 #![tactic(auto)]
 
 ghost use Rattle.std.specs.Prelude.{◌≡◌, ◌+◌, ◌≤◌, leb, length};
@@ -13,13 +14,13 @@ ghost use Rattle.exec_core.specs.Views.{does, branches, way_of, fetched_of, oper
 ghost use Rattle.exec_core.specs.Entry.{Entry, readable, writable, is_place, steady, going};
 
 use accumulator::{accumulate, divide, in_range_or, last_digit, no_digit, shifted};
+use exec_core::Answer;
 use exec_core::operands::{act, fetch, operand, store, to_first, to_second};
-use exec_core::{Answer, Fetched};
 use ops::constants::Machine;
 use ops::format::PLACE_KIND;
 
 // What operand one holds, of a kind that moves no register.
-fn load(t: &[u32], b: usize, m: &[u32], z: &[u32; 16]) -> Fetched
+fn load(t: &[u32], b: usize, m: &[u32], z: &[u32; 16]) -> Option<u32>
     requires { Entry steady readable going t.now b z.now }
     ensures { fetched_of result ≡ fetch_of z.now m.now (operand_at t.now (b + 1)) }
 {
@@ -31,8 +32,7 @@ pub fn ldi(t: &[u32], b: usize, m: &[u32], z: &mut [u32; 16]) -> usize
     requires { Entry steady readable going t.now b z.old }
     ensures { shown result z.new m.now ≡ does t.now b 0 0 z.old m.now Op.LDI }
 {
-    let f = load(t, b, m, z);
-    let Fetched::Got(v) = f else {
+    let Some(v) = load(t, b, m, z) else {
         return Answer::BAD_ADDRESS;
     };
     z[Machine::IA] = v;
@@ -44,8 +44,7 @@ pub fn adi(t: &[u32], b: usize, m: &[u32], z: &mut [u32; 16]) -> usize
     requires { Entry steady readable going t.now b z.old }
     ensures { shown result z.new m.now ≡ does t.now b 0 0 z.old m.now Op.ADI }
 {
-    let f = load(t, b, m, z);
-    let Fetched::Got(v) = f else {
+    let Some(v) = load(t, b, m, z) else {
         return Answer::BAD_ADDRESS;
     };
     let n = integers::sum(z[Machine::IA], v);
@@ -58,8 +57,7 @@ pub fn mli(t: &[u32], b: usize, m: &[u32], z: &mut [u32; 16]) -> usize
     requires { Entry steady readable going t.now b z.old }
     ensures { shown result z.new m.now ≡ does t.now b 0 0 z.old m.now Op.MLI }
 {
-    let f = load(t, b, m, z);
-    let Fetched::Got(v) = f else {
+    let Some(v) = load(t, b, m, z) else {
         return Answer::BAD_ADDRESS;
     };
     let n = integers::product(z[Machine::IA], v);
@@ -72,8 +70,7 @@ pub fn sbi(t: &[u32], b: usize, m: &[u32], z: &mut [u32; 16]) -> usize
     requires { Entry steady readable going t.now b z.old }
     ensures { shown result z.new m.now ≡ does t.now b 0 0 z.old m.now Op.SBI }
 {
-    let f = load(t, b, m, z);
-    let Fetched::Got(v) = f else {
+    let Some(v) = load(t, b, m, z) else {
         return Answer::BAD_ADDRESS;
     };
     let n = integers::difference(z[Machine::IA], v);
@@ -86,8 +83,7 @@ pub fn dvi(t: &[u32], b: usize, m: &[u32], z: &mut [u32; 16]) -> usize
     requires { Entry steady readable going t.now b z.old }
     ensures { shown result z.new m.now ≡ does t.now b 0 0 z.old m.now Op.DVI }
 {
-    let f = load(t, b, m, z);
-    let Fetched::Got(v) = f else {
+    let Some(v) = load(t, b, m, z) else {
         return Answer::BAD_ADDRESS;
     };
     let n = integers::quotient(z[Machine::IA], v);
@@ -100,8 +96,7 @@ pub fn rmi(t: &[u32], b: usize, m: &[u32], z: &mut [u32; 16]) -> usize
     requires { Entry steady readable going t.now b z.old }
     ensures { shown result z.new m.now ≡ does t.now b 0 0 z.old m.now Op.RMI }
 {
-    let f = load(t, b, m, z);
-    let Fetched::Got(v) = f else {
+    let Some(v) = load(t, b, m, z) else {
         return Answer::BAD_ADDRESS;
     };
     let n = integers::remainder(z[Machine::IA], v);
@@ -135,8 +130,7 @@ pub fn mti(t: &[u32], b: usize, m: &[u32], z: &mut [u32; 16]) -> usize
     ensures { shown result z.new m.now ≡ does t.now b 0 0 z.old m.now Op.MTI }
 {
     let one = operand(t, b + 1);
-    let f = fetch(m, z, one);
-    let Fetched::Got(v) = f else {
+    let Some(v) = fetch(m, z, one) else {
         return Answer::BAD_ADDRESS;
     };
     act(z, one);
@@ -152,8 +146,7 @@ pub fn mfi(t: &[u32], b: usize, m: &mut [u32], z: &mut [u32; 16], c: usize) -> u
     let one = operand(t, b + 1);
     let i = z[Machine::IA];
     z[Machine::IA] = 0;
-    let f = fetch(m, z, one);
-    let Fetched::Got(w) = f else {
+    let Some(w) = fetch(m, z, one) else {
         z[Machine::IA] = i;
         return Answer::BAD_ADDRESS;
     };

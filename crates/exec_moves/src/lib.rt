@@ -1,5 +1,6 @@
 // Moves and arithmetic on words: MOV, ICV, DCV, ZER, MNZ, SSL, ADD, SUB, ICA, DCA, LCT, AOV.
 // Each answers 64 + the offset of the next entry, or 22 or 23, which leave registers and memory as they were.
+// ADD and SUB, ICV and ICA and their like are a function each: `dispatch` calls it from one arm, and so it is folded into the loop.
 #![tactic(auto)]
 
 ghost use Rattle.std.specs.Prelude.{◌≡◌, ◌<◌, ◌≤◌, ◌+◌, length, ltb};
@@ -12,8 +13,8 @@ ghost use Rattle.rules.specs.Exec.{fork};
 ghost use Rattle.exec_core.specs.Views.{does, branches, way_of};
 ghost use Rattle.exec_core.specs.Entry.{Entry, readable, writable, in_register, going, branching};
 
+use exec_core::Answer;
 use exec_core::operands::{act, fetch, index, operand, store, sum, to_third};
-use exec_core::{Answer, Fetched};
 use ops::constants::Machine;
 
 // The largest value of a sum that does not overflow.
@@ -26,8 +27,7 @@ pub fn mov(t: &[u32], b: usize, m: &mut [u32], z: &mut [u32; 16], c: usize) -> u
 {
     let one = operand(t, b + 1);
     let two = operand(t, b + 4);
-    let f = fetch(m, z, one);
-    let Fetched::Got(v) = f else {
+    let Some(v) = fetch(m, z, one) else {
         return Answer::BAD_ADDRESS;
     };
     let x = index(one.reg);
@@ -42,8 +42,7 @@ pub fn icv(t: &[u32], b: usize, m: &mut [u32], z: &mut [u32; 16], c: usize) -> u
     ensures { shown result z.new m.new ≡ does t.now b 0 c z.old m.old Op.ICV }
 {
     let one = operand(t, b + 1);
-    let f = fetch(m, z, one);
-    let Fetched::Got(w) = f else {
+    let Some(w) = fetch(m, z, one) else {
         return Answer::BAD_ADDRESS;
     };
     store(m, z, c, one, words::add(w, 1), 0, 0, b + Answer::ON)
@@ -55,8 +54,7 @@ pub fn dcv(t: &[u32], b: usize, m: &mut [u32], z: &mut [u32; 16], c: usize) -> u
     ensures { shown result z.new m.new ≡ does t.now b 0 c z.old m.old Op.DCV }
 {
     let one = operand(t, b + 1);
-    let f = fetch(m, z, one);
-    let Fetched::Got(w) = f else {
+    let Some(w) = fetch(m, z, one) else {
         return Answer::BAD_ADDRESS;
     };
     store(m, z, c, one, words::sub(w, 1), 0, 0, b + Answer::ON)
@@ -96,15 +94,13 @@ pub fn add(t: &[u32], b: usize, m: &mut [u32], z: &mut [u32; 16], c: usize) -> u
 {
     let one = operand(t, b + 1);
     let two = operand(t, b + 4);
-    let f = fetch(m, z, one);
-    let Fetched::Got(v) = f else {
+    let Some(v) = fetch(m, z, one) else {
         return Answer::BAD_ADDRESS;
     };
     let x = index(one.reg);
     let old = z[x];
     act(z, one);
-    let g = fetch(m, z, two);
-    let Fetched::Got(w) = g else {
+    let Some(w) = fetch(m, z, two) else {
         z[x] = old;
         return Answer::BAD_ADDRESS;
     };
@@ -118,15 +114,13 @@ pub fn sub(t: &[u32], b: usize, m: &mut [u32], z: &mut [u32; 16], c: usize) -> u
 {
     let one = operand(t, b + 1);
     let two = operand(t, b + 4);
-    let f = fetch(m, z, one);
-    let Fetched::Got(v) = f else {
+    let Some(v) = fetch(m, z, one) else {
         return Answer::BAD_ADDRESS;
     };
     let x = index(one.reg);
     let old = z[x];
     act(z, one);
-    let g = fetch(m, z, two);
-    let Fetched::Got(w) = g else {
+    let Some(w) = fetch(m, z, two) else {
         z[x] = old;
         return Answer::BAD_ADDRESS;
     };
@@ -139,8 +133,7 @@ pub fn ica(t: &[u32], b: usize, m: &mut [u32], z: &mut [u32; 16], c: usize) -> u
     ensures { shown result z.new m.new ≡ does t.now b 0 c z.old m.old Op.ICA }
 {
     let one = operand(t, b + 1);
-    let f = fetch(m, z, one);
-    let Fetched::Got(w) = f else {
+    let Some(w) = fetch(m, z, one) else {
         return Answer::BAD_ADDRESS;
     };
     store(
@@ -161,8 +154,7 @@ pub fn dca(t: &[u32], b: usize, m: &mut [u32], z: &mut [u32; 16], c: usize) -> u
     ensures { shown result z.new m.new ≡ does t.now b 0 c z.old m.old Op.DCA }
 {
     let one = operand(t, b + 1);
-    let f = fetch(m, z, one);
-    let Fetched::Got(w) = f else {
+    let Some(w) = fetch(m, z, one) else {
         return Answer::BAD_ADDRESS;
     };
     store(
@@ -184,8 +176,7 @@ pub fn lct(t: &[u32], b: usize, m: &mut [u32], z: &mut [u32; 16], c: usize) -> u
 {
     let one = operand(t, b + 1);
     let two = operand(t, b + 4);
-    let f = fetch(m, z, two);
-    let Fetched::Got(v) = f else {
+    let Some(v) = fetch(m, z, two) else {
         return Answer::BAD_ADDRESS;
     };
     act(z, two);
@@ -201,15 +192,13 @@ pub fn aov(t: &[u32], b: usize, m: &mut [u32], z: &mut [u32; 16], c: usize) -> u
 {
     let one = operand(t, b + 1);
     let two = operand(t, b + 4);
-    let f = fetch(m, z, one);
-    let Fetched::Got(v) = f else {
+    let Some(v) = fetch(m, z, one) else {
         return Answer::BAD_ADDRESS;
     };
     let x = index(one.reg);
     let old = z[x];
     act(z, one);
-    let g = fetch(m, z, two);
-    let Fetched::Got(w) = g else {
+    let Some(w) = fetch(m, z, two) else {
         z[x] = old;
         return Answer::BAD_ADDRESS;
     };

@@ -17,8 +17,7 @@ use Rattle.rules.specs.Number.{bad_address, constant_write, trap_number}
 use Rattle.rules.specs.Effect.{shown}
 use Rattle.rules.specs.Exec.{fork}
 use Rattle.rules.specs.Operand.{Operand, address, spot_of, word_at}
-use Rattle.exec_core.specs.declared.Spot.{Spot}
-use Rattle.exec_core.specs.declared.Spot.TheVariants.{Word, Outside}
+use Rattle.std.specs.Prelude.{Option, Some, None}
 use Rattle.exec_core.specs.Entry.{Sound, held_here, steady}
 use Rattle.exec_core.specs.Views.{cell_of, way_of, answered, operand_at, effect_at, does, branches, onward}
 use Rattle.real_rules.specs.Real.{Real, tests, real_of, both, proper, Whole, within, beyond, ra_of, whole_of, settled}
@@ -29,8 +28,6 @@ use Rattle.reals.specs.declared.Arithmetic.TheVariants.{Sum, Difference, Product
 use Rattle.reals.specs.declared.Comparison.{Comparison}
 use Rattle.reals.specs.declared.Comparison.TheVariants.{Equal, NotLess, Greater, NotGreater, Less, NotEqual}
 use Rattle.reals.specs.Views.{on_values, with_zero}
-use Rattle.exec_reals.specs.declared.Pair.{Pair}
-use Rattle.exec_reals.specs.declared.Pair.TheVariants.{Words, Missing}
 use Rattle.exec_reals.specs.Views.{pair_view, computing, comparing}
 
 -- a real operand stands in memory
@@ -60,43 +57,43 @@ pub spot-of : (z : List ℕ) {o o' : Operand} {a : ℕ} → spot_of cfp_b z o �
 spot-of z {a = a} e h = subst (λ (x : Operand). spot_of cfp_b z x ≡ address a) h e
 
 -- the pair at an operand whose address is a, and a store to it
-module _ (z m : List ℕ) (o : Operand) {a : ℕ} {p : Spot} (e : spot_of cfp_b z o ≡ address a) (h : cell_of p ≡ word_at (length m) a) where
-  pub pair-outside : p ≡ Outside → missing ≡ pair_of z m o
+module _ (z m : List ℕ) (o : Operand) {a : ℕ} {p : Option ℕ} (e : spot_of cfp_b z o ≡ address a) (h : cell_of p ≡ word_at (length m) a) where
+  pub pair-outside : p ≡ None → missing ≡ pair_of z m o
   unfolding pair_of
   pair-outside q = rw (e, ← h, q)
 
-  pub pair-words : {i : ℕ} → p ≡ Word i → i + 1 < length m → words (m at i) (m at (i + 1)) ≡ pair_of z m o
+  pub pair-words : {i : ℕ} → p ≡ Some i → i + 1 < length m → words (m at i) (m at (i + 1)) ≡ pair_of z m o
   unfolding pair_of if
   pair-words {i} q k = rw (e, ← h, q, lt-ltb (i + 1) (length m) k)
 
-  pub pair-past : {i : ℕ} → p ≡ Word i → length m ≤ i + 1 → missing ≡ pair_of z m o
+  pub pair-past : {i : ℕ} → p ≡ Some i → length m ≤ i + 1 → missing ≡ pair_of z m o
   unfolding pair_of if
   pair-past {i} q k = rw (e, ← h, q, le-ltb (i + 1) (length m) k)
 
   module _ (way : ℕ → ℕ) (c v w : ℕ) where
-    pub store-outside : p ≡ Outside → shown (trap_number bad_address) z m ≡ answered way z m (stores_pair c z m o v w)
+    pub store-outside : p ≡ None → shown (trap_number bad_address) z m ≡ answered way z m (stores_pair c z m o v w)
     unfolding stores_pair
     store-outside q = rw (e, ← h, q)
 
-    pub store-past : {i : ℕ} → p ≡ Word i → length m ≤ i + 1 → shown (trap_number bad_address) z m ≡ answered way z m (stores_pair c z m o v w)
+    pub store-past : {i : ℕ} → p ≡ Some i → length m ≤ i + 1 → shown (trap_number bad_address) z m ≡ answered way z m (stores_pair c z m o v w)
     unfolding stores_pair if
     store-past {i} q k = rw (e, ← h, q, le-ltb (i + 1) (length m) k)
 
-    pub store-constant : {i : ℕ} → p ≡ Word i → i + 1 < length m → i < c → shown (trap_number constant_write) z m ≡ answered way z m (stores_pair c z m o v w)
+    pub store-constant : {i : ℕ} → p ≡ Some i → i + 1 < length m → i < c → shown (trap_number constant_write) z m ≡ answered way z m (stores_pair c z m o v w)
     unfolding stores_pair if
     store-constant {i} q k j = rw (e, ← h, q, lt-ltb (i + 1) (length m) k, lt-ltb i c j)
 
-    pub store_words : {i : ℕ} → p ≡ Word i → i + 1 < length m → c ≤ i → shown (way 0) z (set (set m i v) (i + 1) w) ≡ answered way z m (stores_pair c z m o v w)
+    pub store_words : {i : ℕ} → p ≡ Some i → i + 1 < length m → c ≤ i → shown (way 0) z (set (set m i v) (i + 1) w) ≡ answered way z m (stores_pair c z m o v w)
     unfolding stores_pair if
     store_words {i} q k j = rw (e, ← h, q, lt-ltb (i + 1) (length m) k, le-ltb i c j)
 
 -- an operation that loads a real: its operand is missing, or got, and y are the words after it
-module _ (way : ℕ → ℕ) (z m : List ℕ) (o : Operand) (f : Real → Real) {r : Pair} (e : pair_view r ≡ pair_of z m o) where
-  pub load-missing : r ≡ Missing → shown (trap_number bad_address) z m ≡ answered way z m (loads_real z m o f)
+module _ (way : ℕ → ℕ) (z m : List ℕ) (o : Operand) (f : Real → Real) {r : Option (ℕ × ℕ)} (e : pair_view r ≡ pair_of z m o) where
+  pub load-missing : r ≡ None → shown (trap_number bad_address) z m ≡ answered way z m (loads_real z m o f)
   unfolding loads_real
   load-missing h = rw (← e, h)
 
-  pub load-words : {v w : ℕ} {x : Real} {y : List ℕ} → r ≡ Words v w → y ≡ settled x z → x ≡ f (real_of v w) → shown (way 0) y m ≡ answered way z m (loads_real z m o f)
+  pub load-words : {v w : ℕ} {x : Real} {y : List ℕ} → r ≡ Some (v, w) → y ≡ settled x z → x ≡ f (real_of v w) → shown (way 0) y m ≡ answered way z m (loads_real z m o f)
   unfolding loads_real
   load-words h k j = rw (← e, h) (ap (λ (l : List ℕ). shown (way 0) l m) (k ∙ ap (λ (q : Real). settled q z) j))
 
@@ -108,11 +105,11 @@ module _ (t : List ℕ) (b : ℕ) (z m : List ℕ) where
   computes Product = refl
   computes Quotient = refl
 
-  module _ (o : Arithmetic) {r : Pair} (e : pair_view r ≡ pair_of z m (operand_at t (b + 1))) where
-    pub computes-missing : r ≡ Missing → shown (trap_number bad_address) z m ≡ does t b 0 0 z m (computing o)
+  module _ (o : Arithmetic) {r : Option (ℕ × ℕ)} (e : pair_view r ≡ pair_of z m (operand_at t (b + 1))) where
+    pub computes-missing : r ≡ None → shown (trap_number bad_address) z m ≡ does t b 0 0 z m (computing o)
     computes-missing h = load-missing (λ j. onward b) z m _ _ e h ∙ ap (answered (λ j. onward b) z m) (computes o)
 
-    pub computes-words : {v w : ℕ} {x a c : Real} {y : List ℕ} → r ≡ Words v w → y ≡ settled x z → x ≡ both (on_values o) a c → a ≡ ra_of z → c ≡ real_of v w → shown (onward b) y m ≡ does t b 0 0 z m (computing o)
+    pub computes-words : {v w : ℕ} {x a c : Real} {y : List ℕ} → r ≡ Some (v, w) → y ≡ settled x z → x ≡ both (on_values o) a c → a ≡ ra_of z → c ≡ real_of v w → shown (onward b) y m ≡ does t b 0 0 z m (computing o)
     computes-words h k j p q = load-words (λ i. onward b) z m _ _ e h k (rw (p, q) at j) ∙ ap (answered (λ i. onward b) z m) (computes o)
 
 -- the six that compare

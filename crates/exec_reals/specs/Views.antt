@@ -1,17 +1,16 @@
--- The code's word pair, operations and comparisons as the rules'.
+-- The two words that the code loads, or none, its operations and comparisons as the rules'.
 -- Assumes nothing.
+use Rattle.std.specs.Prelude.{ℕ, Option, Some, None}
 use Rattle.ops.specs.Ops.{Op, ADR, SBR, MLR, DVR, REQ, RGE, RGT, RLE, RLT, RNE}
 use Rattle.rules.specs.Pair as Rules
 use Rattle.reals.specs.declared.Arithmetic.{Arithmetic}
 use Rattle.reals.specs.declared.Arithmetic.TheVariants.{Sum, Difference, Product, Quotient}
 use Rattle.reals.specs.declared.Comparison.{Comparison}
 use Rattle.reals.specs.declared.Comparison.TheVariants.{Equal, NotLess, Greater, NotGreater, Less, NotEqual}
-use Rattle.exec_reals.specs.declared.Pair.{Pair}
-use Rattle.exec_reals.specs.declared.Pair.TheVariants.{Words, Missing}
 
-abbrev pub pair_view : Pair → Rules.Pair
-pair_view (Words v w) = Rules.words v w
-pair_view Missing = Rules.missing
+abbrev pub pair_view : Option (ℕ × ℕ) → Rules.Pair
+pair_view (Some (v, w)) = Rules.words v w
+pair_view None = Rules.missing
 
 -- the operation that computes so, and the one that compares so
 abbrev pub computing : Arithmetic → Op

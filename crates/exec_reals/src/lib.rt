@@ -11,33 +11,23 @@ ghost use Rattle.exec_core.specs.Entry.{Entry, readable, is_place, steady, going
 ghost use Rattle.exec_reals.specs.Views.{pair_view, computing, comparing};
 
 use exec_branches::first_if;
+use exec_core::Answer;
 use exec_core::operands::{address, operand, to_first, word_at};
-use exec_core::{Answer, Spot};
 use ops::constants::Machine;
 use ops::format::PLACE_KIND;
-use reals::{Arithmetic, Comparison, Whole, ra, settle};
-
-// Two words of memory.
-#[derive(Clone, Copy)]
-pub enum Pair {
-    Words(u32, u32),
-    Missing,
-}
+use reals::{Arithmetic, Comparison, ra, settle};
 
 // The pair that operand one names.
-fn load(t: &[u32], b: usize, m: &[u32], z: &[u32; 16]) -> Pair
+fn load(t: &[u32], b: usize, m: &[u32], z: &[u32; 16]) -> Option<(u32, u32)>
     requires { Entry steady readable going t.now b z.now }
     ensures { pair_view result ≡ pair_of z.now m.now (operand_at t.now (b + 1)) }
 {
-    let p = word_at(m.len(), address(z, operand(t, b + 1)));
-    let Spot::Word(i) = p else {
-        return Pair::Missing;
-    };
+    let i = word_at(m.len(), address(z, operand(t, b + 1)))?;
     let j = i + 1;
     if j < m.len() {
-        return Pair::Words(m[i], m[j]);
+        return Some((m[i], m[j]));
     }
-    Pair::Missing
+    None
 }
 
 // [M 5.1] LDR: RA := operand one; not finite, RA stays and the flag is on
@@ -45,8 +35,7 @@ pub fn ldr(t: &[u32], b: usize, m: &[u32], z: &mut [u32; 16]) -> usize
     requires { Entry steady readable going t.now b z.old }
     ensures { shown result z.new m.now ≡ does t.now b 0 0 z.old m.now Op.LDR }
 {
-    let p = load(t, b, m, z);
-    let Pair::Words(v, w) = p else {
+    let Some((v, w)) = load(t, b, m, z) else {
         return Answer::BAD_ADDRESS;
     };
     let x = reals::real_of(v, w);
@@ -59,8 +48,7 @@ pub fn str(t: &[u32], b: usize, m: &mut [u32], z: &[u32; 16], c: usize) -> usize
     requires { Entry steady readable going t.now b z.now }
     ensures { shown result z.now m.new ≡ does t.now b 0 c z.now m.old Op.STR }
 {
-    let p = word_at(m.len(), address(z, operand(t, b + 1)));
-    let Spot::Word(i) = p else {
+    let Some(i) = word_at(m.len(), address(z, operand(t, b + 1))) else {
         return Answer::BAD_ADDRESS;
     };
     let j = i + 1;
@@ -80,8 +68,7 @@ pub fn arithmetic(t: &[u32], b: usize, m: &[u32], z: &mut [u32; 16], o: Arithmet
     requires { Entry steady readable going t.now b z.old }
     ensures { shown result z.new m.now ≡ does t.now b 0 0 z.old m.now (computing o) }
 {
-    let p = load(t, b, m, z);
-    let Pair::Words(v, w) = p else {
+    let Some((v, w)) = load(t, b, m, z) else {
         return Answer::BAD_ADDRESS;
     };
     let x = reals::compute(o, ra(z), reals::real_of(v, w));
@@ -138,17 +125,12 @@ pub fn rti(t: &[u32], b: usize, z: &mut [u32; 16]) -> usize
     requires { Entry readable readable going t.now b z.old }
     ensures { AnyMem (shown result z.new) (λ m. branches t.now b 0 0 z.old m Op.RTI) }
 {
-    let r = reals::whole_of(z[Machine::RA], z[Machine::RA_HIGH]);
-    match r {
-        Whole::Within(w) => {
-            z[Machine::IA] = w;
-            b + Answer::ON
-        }
-        Whole::Beyond => {
-            if t[b + 1] == PLACE_KIND {
-                return to_first(t, b);
-            }
-            b + Answer::ON
-        }
+    if let Some(w) = reals::whole_of(z[Machine::RA], z[Machine::RA_HIGH]) {
+        z[Machine::IA] = w;
+        return b + Answer::ON;
     }
+    if t[b + 1] == PLACE_KIND {
+        return to_first(t, b);
+    }
+    b + Answer::ON
 }

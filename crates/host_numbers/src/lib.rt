@@ -5,10 +5,10 @@
 ghost use Rattle.std.specs.Prelude.{◌≡◌};
 ghost use Rattle.host_numbers.specs.Numbers.{number_restored, number_written};
 
-use snapshot::waking::Answer;
-use snapshot::writing::Written;
+use snapshot::waking::RestoreError;
+use snapshot::writing::WriteError;
 
-// The answers: passed, 30, 31, and those of the snapshot.
+// The answers: passed, 30, 31, and those of the snapshot, by the numbers that the host sees.
 pub const PASSED: u32 = 0;
 
 pub const BAD_TABLE: u32 = 30;
@@ -31,28 +31,28 @@ const SHORT_ROOM: u32 = 45;
 pub const UPPER: u64 = 4294967296;
 
 // The number of an answer of restore.
-pub fn number_of(a: Answer) -> u32
-    ensures { result ≡ number_restored a }
+pub fn number_of(answer: Result<(), RestoreError>) -> u32
+    ensures { result ≡ number_restored answer }
 {
-    match a {
-        Answer::Woken => PASSED,
-        Answer::BadTable => BAD_TABLE,
-        Answer::BadTrailer => BAD_TRAILER,
-        Answer::OtherProgram => OTHER_PROGRAM,
-        Answer::BadFrozen => BAD_FROZEN,
-        Answer::FreshCountOff => FRESH_COUNT_OFF,
-        Answer::MemoryLengthOff => MEMORY_LENGTH_OFF,
+    match answer {
+        Ok(()) => PASSED,
+        Err(RestoreError::BadTable) => BAD_TABLE,
+        Err(RestoreError::BadTrailer) => BAD_TRAILER,
+        Err(RestoreError::OtherProgram) => OTHER_PROGRAM,
+        Err(RestoreError::BadFrozen) => BAD_FROZEN,
+        Err(RestoreError::FreshCountOff) => FRESH_COUNT_OFF,
+        Err(RestoreError::MemoryLengthOff) => MEMORY_LENGTH_OFF,
     }
 }
 
 // The number and the length of an answer of the writer.
-pub fn number_written(w: Written) -> u64
+pub fn number_written(w: Result<usize, WriteError>) -> u64
     ensures { result ≡ number_written w }
 {
     match w {
-        Written::Filled(len) => len as u64,
-        Written::BadTable => UPPER * BAD_TABLE as u64,
-        Written::BadState => UPPER * BAD_STATE as u64,
-        Written::ShortRoom => UPPER * SHORT_ROOM as u64,
+        Ok(len) => len as u64,
+        Err(WriteError::BadTable) => UPPER * BAD_TABLE as u64,
+        Err(WriteError::BadState) => UPPER * BAD_STATE as u64,
+        Err(WriteError::ShortRoom) => UPPER * SHORT_ROOM as u64,
     }
 }

@@ -9,7 +9,7 @@ use lib.ListN.{length, drop}
 use borrow.Author.Tests.{lt-ltb, le-ltb}
 use Rattle.base.specs.Test.{if}
 use Rattle.base.proofs.Bool.{if_no, if_yes, unless-no, unless-yes}
-use Rattle.rules.specs.Number.{verdict_number, bad_table, bad_state}
+use Rattle.rules.specs.Number.{refusal_number, bad_table, bad_state}
 use Rattle.rules.specs.Check.{table_ok}
 use Rattle.rules.specs.State as Rules
 use Rattle.rules.specs.Start as Start
@@ -17,9 +17,8 @@ use Rattle.rules.specs.Start.{Mode, memory_begun, start_of, start_on, unbegun}
 use Rattle.states.specs.declared.State.{State}
 use Rattle.states.specs.Views.{state_of}
 use Rattle.starting.specs.Answers as Starting
-use Rattle.starting.specs.declared.Answer.{Answer}
-use Rattle.starting.specs.declared.Answer.TheVariants as starts
-use Rattle.starting.specs.declared.Started.{Started}
+use Rattle.starting.specs.declared.StartError.{StartError}
+use Rattle.std.specs.Prelude.{Ok, Err}
 use Rattle.lent.specs.Lent.{words_from}
 use Rattle.host_claims.specs.Running.{HostStarts, start_number, start_words, unread_number, words_begun}
 use Rattle.host_claims.proofs.Known.{Known, are_words}
@@ -64,44 +63,19 @@ module _ (k : Mode) (t lent fs : List ℕ) (x : ℕ) (ws : List ℕ) where
       by-table true e = unless-yes _ _ _ e ∙ if_no _ _ _ (le-ltb _ _ a)
       by-table false e = unless-no _ _ _ e ∙ sym (start-table t _ fs x e)
 
-  module _ (a : Answer) (c : State) (after : List ℕ) (room : 270 ≤ length ws)
-      (g : Starting.Starts k t lent fs x (record { answer = a; state = c }) after) where
-    started-number : (v : Answer) (y : Start.Started) (m : Rules.State) → Starting.started_by (Starting.verdict_of v) m ≡ y → verdict_number (Starting.verdict_of v) ≡ start_number y
-    started-number starts.Begun y m e = ap start_number e
-    started-number starts.BadTable y m e = ap start_number e
-    started-number starts.UnfitMemory y m e = ap start_number e
-    started-number starts.FreshCountOff y m e = ap start_number e
-
-    host-started : (n : ℕ) (words : List ℕ) → n ≡ verdict_number (Starting.verdict_of a) → words ≡ words_begun (start_words k t lent fs x ws) ws
-        → Known after → Known words → HostStarts k t lent fs x ws n after words
-    host-started n words q w y z =
+  module _ (after : List ℕ) (room : 270 ≤ length ws) where
+    -- begun, with the state's words put in front
+    pub host-begun : (c : State) → Starting.Starts k t lent fs x (Ok c) after → (words : List ℕ) → words ≡ words_from c ++ drop 270 ws → Known after → Known words
+        → HostStarts k t lent fs x ws 0 after words
+    host-begun c g words w y z =
         let u = start-words room in
-        told-start n after words (q ∙ started-number a _ _ g.answer ∙ rw u) (g.memory ∙ rw u) w y z
+        told-start 0 after words (ap start_number g.answer ∙ rw u) (g.memory ∙ rw u)
+        (w ∙ ap (λ (v : State). words_from v ++ drop 270 ws) (g.state ∙ ap Starting.state_begun (sym g.answer))
+        ∙ ap (λ (v : Start.Started). words_begun v ws) g.answer ∙ rw u) y z
 
-    started-put : (n : ℕ) (words : List ℕ) → n ≡ verdict_number (Starting.verdict_of a) → n ≡ 0 → words ≡ words_from c ++ drop 270 ws
-        → words ≡ words_begun (start_words k t lent fs x ws) ws
-    started-put n words q z w = by_answer a (sym q ∙ z) g.answer ∙ rw (start-words room)
-      where
-        by_answer : (v : Answer) → verdict_number (Starting.verdict_of v) ≡ 0 → Starting.started_by (Starting.verdict_of v) (state_of c after) ≡ start_of k t lent fs x → words ≡ words_begun (start_of k t lent fs x) ws
-        by_answer starts.Begun h e =
-            w ∙ ap (λ (z : State). words_from z ++ drop 270 ws) (g.state ∙ ap Starting.state_begun (sym e)) ∙ ap (λ (z : Start.Started). words_begun z ws) e
-        by_answer starts.BadTable h e = absurd (omega arith)
-        by_answer starts.UnfitMemory h e = absurd (omega arith)
-        by_answer starts.FreshCountOff h e = absurd (omega arith)
-
-    started-kept : (n : ℕ) → n ≡ verdict_number (Starting.verdict_of a) → (n ≡ 0 → ⊥) → ws ≡ words_begun (start_words k t lent fs x ws) ws
-    started-kept n q z = by_answer a (λ h. z (q ∙ h)) g.answer ∙ rw (start-words room)
-      where
-        by_answer : (v : Answer) → (verdict_number (Starting.verdict_of v) ≡ 0 → ⊥) → Starting.started_by (Starting.verdict_of v) (state_of c after) ≡ start_of k t lent fs x → ws ≡ words_begun (start_of k t lent fs x) ws
-        by_answer starts.Begun h e = absurd (h refl)
-        by_answer starts.BadTable h e = ap (λ (z : Start.Started). words_begun z ws) e
-        by_answer starts.UnfitMemory h e = ap (λ (z : Start.Started). words_begun z ws) e
-        by_answer starts.FreshCountOff h e = ap (λ (z : Start.Started). words_begun z ws) e
-
-    -- begun, with the state's words put in front; refused, with the words as they were
-    pub host-begun : (n : ℕ) (words : List ℕ) → n ≡ verdict_number (Starting.verdict_of a) → n ≡ 0 → words ≡ words_from c ++ drop 270 ws → Known after → Known words
-        → HostStarts k t lent fs x ws n after words
-    host-begun n words q e w y z = host-started n words q (started-put n words q e w) y z
-
-    pub host-unbegun : (n : ℕ) → n ≡ verdict_number (Starting.verdict_of a) → (n ≡ 0 → ⊥) → Known after → Known ws → HostStarts k t lent fs x ws n after ws
-    host-unbegun n q e y z = host-started n ws q (started-kept n q e) y z
+    -- refused, with the words as they were
+    pub host-unbegun : (e : StartError) → Starting.Starts k t lent fs x (Err e) after → (n : ℕ) → n ≡ refusal_number (Starting.refusal_of e) → Known after → Known ws
+        → HostStarts k t lent fs x ws n after ws
+    host-unbegun e g n q y z =
+        let u = start-words room in
+        told-start n after ws (q ∙ ap start_number g.answer ∙ rw u) (g.memory ∙ rw u) (ap (λ (v : Start.Started). words_begun v ws) g.answer ∙ rw u) y z

@@ -7,54 +7,41 @@ use mathlib.Core.List.{List, ◌++◌}
 use borrow.Author.Tests.{le-ltb, lt-ltb}
 use lib.ListN.{length, drop}
 use Rattle.base.proofs.Bool.{if_no, if_yes, unless-no, unless-yes}
-use Rattle.rules.specs.Number.{bad_table, bad_state, upper}
+use Rattle.rules.specs.Number.{bad_table, bad_state, refusal_number, upper}
 use Rattle.rules.specs.Check.{table_ok}
-use Rattle.rules.specs.State as Rules
 use Rattle.rules.specs.Snapshot as Snapshot
 use Rattle.rules.specs.Snapshot.{memory_woken, restore_of, unwoken, unwritten, woken, write_of}
 use Rattle.states.specs.declared.State.{State}
 use Rattle.states.specs.Views.{state_of}
-use Rattle.snapshot.specs.Answers.{Restores, Writes, restored_by, bytes_after, bytes_written, state_woken, written_of}
-use Rattle.snapshot.specs.declared.waking.Answer.{Answer}
-use Rattle.snapshot.specs.declared.waking.Answer.TheVariants.{Woken, BadTable, BadTrailer, OtherProgram, BadFrozen, FreshCountOff, MemoryLengthOff}
-use Rattle.snapshot.specs.declared.waking.Restored.{Restored}
-use Rattle.snapshot.specs.declared.writing.Written.{Written}
-use Rattle.snapshot.specs.declared.writing.Written.TheVariants as written
-use Rattle.snapshot.specs.declared.writing.Written.TheVariants.{Filled, BadState, ShortRoom}
+use Rattle.snapshot.specs.Answers.{Restores, Writes, bytes_after, bytes_written, refusal_of, state_woken, written_of}
+use Rattle.std.specs.Prelude.{Result, Ok, Err}
+use Rattle.snapshot.specs.declared.waking.RestoreError.{RestoreError}
+use Rattle.snapshot.specs.declared.waking.RestoreError.TheVariants.{BadTable, BadTrailer, OtherProgram, BadFrozen, FreshCountOff, MemoryLengthOff}
+use Rattle.snapshot.specs.declared.writing.WriteError.{WriteError}
+use Rattle.snapshot.specs.declared.writing.WriteError.TheVariants as writes
+use Rattle.snapshot.specs.declared.writing.WriteError.TheVariants.{BadState, ShortRoom}
 use Rattle.host_claims.proofs.Known.{Known, are_words}
 use Rattle.lent.specs.Lent.{lawful, code_from, state_from, words_from}
-use Rattle.host_claims.proofs.Begins.{refused-number}
 use Rattle.host_claims.proofs.Machines.{woken-machine}
 use Rattle.host_claims.specs.Freezing.{HostRestores, HostWrites, file_number, restore_words, woken_number, words_after, write_words}
 use Rattle.host_numbers.specs.Numbers.{number_restored, number_written}
 
 -- the number of the code's answer is that of the rules' answer
-written-number : (w : Written) (x : Snapshot.Written) (after : List ℕ) (n : ℕ) → written_of w after ≡ x → bytes_written w ≡ bytes_after x n
+written-number : (w : Result ℕ WriteError) (x : Snapshot.Written) (after : List ℕ) (n : ℕ) → written_of w after ≡ x → bytes_written w ≡ bytes_after x n
     → number_written w ≡ file_number x n
-written-number (Filled k) x after n e h =
+written-number (Ok k) x after n e h =
     h ∙ ap (λ (y : Snapshot.Written). bytes_after y n) (sym e) ∙ ap (λ (y : Snapshot.Written). file_number y n) e
-written-number written.BadTable x after n e h = ap (λ (y : Snapshot.Written). file_number y n) e
-written-number BadState x after n e h = ap (λ (y : Snapshot.Written). file_number y n) e
-written-number ShortRoom x after n e h = ap (λ (y : Snapshot.Written). file_number y n) e
+written-number (Err writes.BadTable) x after n e h = ap (λ (y : Snapshot.Written). file_number y n) e
+written-number (Err BadState) x after n e h = ap (λ (y : Snapshot.Written). file_number y n) e
+written-number (Err ShortRoom) x after n e h = ap (λ (y : Snapshot.Written). file_number y n) e
 
-restored-number : (a : Answer) (s : Rules.State) (x : Snapshot.Restored) → restored_by a s ≡ x → number_restored a ≡ woken_number x
-restored-number Woken s x e = ap woken_number e
-restored-number BadTable s x e = ap woken_number e
-restored-number BadTrailer s x e = ap woken_number e
-restored-number OtherProgram s x e = ap woken_number e
-restored-number BadFrozen s x e = ap woken_number e
-restored-number FreshCountOff s x e = ap woken_number e
-restored-number MemoryLengthOff s x e = ap woken_number e
-
--- an answer of 0 is a woken machine, whose words are then in front; with any other the words stay
-words-woken : (x : Snapshot.Restored) (s : State) (ws words : List ℕ) → woken_number x ≡ 0 → s ≡ state_woken x → words ≡ words_from s ++ drop 270 ws
-    → words ≡ words_after x ws
-words-woken (woken m) s ws words z e h = h ∙ rw e
-words-woken (unwoken r) s ws words z e h = absurd (refused-number r z)
-
-words-stay : (x : Snapshot.Restored) (ws : List ℕ) → (woken_number x ≡ 0 → ⊥) → ws ≡ words_after x ws
-words-stay (woken m) ws z = absurd (z refl)
-words-stay (unwoken r) ws z = refl
+restored-number : (a : RestoreError) → number_restored (Err a) ≡ refusal_number (refusal_of a)
+restored-number BadTable = refl
+restored-number BadTrailer = refl
+restored-number OtherProgram = refl
+restored-number BadFrozen = refl
+restored-number FreshCountOff = refl
+restored-number MemoryLengthOff = refl
 
 module _ (t ws mem : List ℕ) (build : ℕ) (room : List ℕ) where
   -- 30
@@ -73,7 +60,7 @@ module _ (t ws mem : List ℕ) (build : ℕ) (room : List ℕ) where
         record { number = rw u; bytes = rw u }
 
     -- what the writer answers of a state
-    pub host-written : (s : State) (w : Written) (r : ℕ) (after : List ℕ) → lawful ws ≡ true → s ≡ code_from ws
+    pub host-written : (s : State) (w : Result ℕ WriteError) (r : ℕ) (after : List ℕ) → lawful ws ≡ true → s ≡ code_from ws
         → Writes t (state_of s mem) build room w after → r ≡ number_written w → HostWrites t ws mem build room r after
     unfolding write_words
     host-written s w r after a e h n =
@@ -109,24 +96,23 @@ module _ (t file : List ℕ) (build : ℕ) (fs lent ws : List ℕ) where
         let u : restore_words t file build fs lent ws ≡ unwoken bad_state = unless-yes _ _ _ ok ∙ if_yes _ _ _ (lt-ltb _ _ a) in
         told-so 31 lent ws (rw u) (rw u) (rw u) y z
 
-    module _ (r : Restored) (n : ℕ) (after : List ℕ) (room : 270 ≤ length ws) (done : Restores t file build fs lent r after)
-        (e : n ≡ number_restored r.answer) where
-      same_number : n ≡ woken_number (restore_of t file build fs lent)
-      same_number = e ∙ restored-number r.answer _ _ done.answer
-
+    module _ (after : List ℕ) (room : 270 ≤ length ws) where
       rules-restore : restore_words t file build fs lent ws ≡ restore_of t file build fs lent
       unfolding restore_words
       rules-restore = unless-yes _ _ _ ok ∙ if_no _ _ _ (le-ltb _ _ room)
 
       -- woken, and the state's words put in front
-      pub host-woken : (words : List ℕ) → n ≡ 0 → words ≡ words_from r.state ++ drop 270 ws → Known after → Known words
-          → HostRestores t file build fs lent ws n after words
-      host-woken words z h below-memory below-words =
-          told-so n after words (rw rules-restore same_number) (rw rules-restore done.memory)
-          (rw rules-restore (words-woken (restore_of t file build fs lent) r.state ws words (sym same_number ∙ z) done.state h)) below-memory below-words
+      pub host-woken : (s : State) → Restores t file build fs lent (Ok s) after → (words : List ℕ) → words ≡ words_from s ++ drop 270 ws → Known after → Known words
+          → HostRestores t file build fs lent ws 0 after words
+      host-woken s done words w y z =
+          told-so 0 after words (rw rules-restore (ap woken_number done.answer)) (rw rules-restore done.memory)
+          (rw rules-restore
+          (w ∙ ap (λ (v : State). words_from v ++ drop 270 ws) (done.state ∙ ap state_woken (sym done.answer))
+          ∙ ap (λ (v : Snapshot.Restored). words_after v ws) done.answer)) y z
 
       -- refused by the snapshot
-      pub host-unwoken : (n ≡ 0 → ⊥) → Known after → Known ws → HostRestores t file build fs lent ws n after ws
-      host-unwoken z below-memory below-words =
-          told-so n after ws (rw rules-restore same_number) (rw rules-restore done.memory)
-          (rw rules-restore (words-stay (restore_of t file build fs lent) ws (λ y. z (same_number ∙ y)))) below-memory below-words
+      pub host-unwoken : (e : RestoreError) → Restores t file build fs lent (Err e) after → (n : ℕ) → n ≡ number_restored (Err e) → Known after → Known ws
+          → HostRestores t file build fs lent ws n after ws
+      host-unwoken e done n q y z =
+          told-so n after ws (rw rules-restore (q ∙ restored-number e ∙ ap woken_number done.answer)) (rw rules-restore done.memory)
+          (rw rules-restore (ap (λ (v : Snapshot.Restored). words_after v ws) done.answer)) y z

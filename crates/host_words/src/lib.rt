@@ -73,14 +73,13 @@ pub fn start_words(
     if state.len() < WORDS {
         return unread(table);
     }
-    let r = start(mode, table, memory, fresh, argument);
-    let a = r.answer;
-    let n = number_started(a);
-    if n == PASSED {
-        let s = r.state;
-        put_state(state, s);
+    match start(mode, table, memory, fresh, argument) {
+        Ok(started) => {
+            put_state(state, started);
+            PASSED
+        }
+        Err(e) => number_started(Err(e)),
     }
-    n
 }
 
 // The host's answer to the call that the state waits at: an exit, or 0 for no number. 0: the state goes on from there. 26: the exit's PPM
@@ -92,13 +91,10 @@ pub fn resume_words(table: &[u32], memory: &[u32], state: &mut [u32], exit: u32)
     if !words_ok(state) {
         return unread(table);
     }
-    let lent = state_of(state);
-    let r = resume(table, memory, lent, exit);
-    let a = r.answer;
-    let n = number_resumed(a);
+    let r = resume(table, memory, state_of(state), exit);
+    let n = number_resumed(r.answer);
     if n < BAD_TABLE {
-        let s = r.state;
-        put_state(state, s);
+        put_state(state, r.state);
     }
     n
 }
@@ -138,12 +134,11 @@ pub fn restore_words(
     if state.len() < WORDS {
         return BAD_STATE;
     }
-    let r = restore_checked(table, file, build, fresh, memory);
-    let a = r.answer;
-    let number = number_of(a);
-    if number == PASSED {
-        let s = r.state;
-        put_state(state, s);
+    match restore_checked(table, file, build, fresh, memory) {
+        Ok(woken) => {
+            put_state(state, woken);
+            PASSED
+        }
+        Err(e) => number_of(Err(e)),
     }
-    number
 }

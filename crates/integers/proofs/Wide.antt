@@ -1,6 +1,6 @@
 -- Words as the machine's signed numbers of 64 bits: what its operations ask and what they give.
 -- Assumes nothing.
-use Prim.Native.Nat.{ℕ, zero, suc, ◌-◌, ◌%◌, ◌^◌, ◌<◌}
+use Prim.Native.Nat.{ℕ, suc, ◌-◌, ◌%◌, ◌^◌, ◌<◌}
 use mathlib.Core.Path.{◌≡◌, refl, sym, ap, ◌∙◌, subst}
 use mathlib.Core.Bool.{true, false, false≢true}
 use native.Mathlib.Nat.{le-suc, le_trans, div-zero, mod-zero}

@@ -8,20 +8,19 @@ use Rattle.language.proofs.Quick.{answer_by, look_up, named_in, operation_by, wa
 use Rattle.base.specs.Test.{◌and◌, ◌or◌, if}
 use Rattle.base.specs.Lists.{member, same}
 use Rattle.ops.specs.Ops.{NGI, op_in, rows}
-use Rattle.ops.specs.Lookup.{row_of_letters}
 use Rattle.supplied.specs.Supplied.{supplies, supplied_of}
 use Rattle.words.specs.Words.{text_words}
 use Rattle.rules.specs.Table.{size, constants, workings, fresh_count, externals, section4, section5, section6, fresh_at, exit_count, start_word, table_length, field, class_at, value, target1, target2, target3, executable, body_at, names_procedure, names_external, callee, declared}
 use Rattle.rules.specs.Check.{smaller, among, register_ok, value_ok, operand_ok, third_ok, fields_ok, apart, outside, reaches, is_outside, starts_section, all_exits, exit_list, iffs, value_known, unlike, distinct_iffs, switch_list, exit_number_ok, fault_at, rules_hold, sections_ok, fresh_ok, counts_ok, limits_ok, layout_ok, table_ok}
 use Rattle.language.specs.Text.{between, parts, lines, label_end, operation_start, operation_end, operand_start, tail_of, field_of, is_empty, symbol_of, number_of, register_of, label_of, label_formed}
-use Rattle.language.specs.Operation.{operation_named, operation_in, operation_of, is_skipped, is_divider, wants_label, is_labelless, bars_label, formats_of, has_text}
+use Rattle.language.specs.Operation.{is_skipped, is_divider, wants_label, is_labelless, bars_label, formats_of, has_text}
 use Rattle.language.specs.Form.{single_form, indexed_form, combined_form, signed_form, marked_form, form_of, texts_in, written_forms, has_comma, has_remark, delimited_by, quoted}
-use Rattle.language.specs.Card.{card_of, holds_place, of_words, is_one_word, word_count, is_external, opened_past, past, walk, cards_of}
+use Rattle.language.specs.Card.{holds_place, of_words, is_one_word, word_count, is_external, opened_past, past}
 use Rattle.language.specs.Symbol.{declared_sort, placed_sort, sort_at, fields_named, first_place, global_meaning, meaning, all_placed, above, pairs}
 use Rattle.language.specs.Operand.{register_kind, takes, value_within, displaced, symbol_by, summed, subtracted, signed_within, operand_of, operands_of, outcomes}
 use Rattle.language.specs.Image.{symbol_at, symbols_from, symbols_of, first_operand, row_entry, entry_in, is_fresh, words_in, starts_in, fresh_in, counts_in, header, image, stand_in}
-use Rattle.language.specs.Fault.{deck_with, deck_in, deck_of, bytes_printed, line_short, label_readable, forms_of, operands_formed, remark_there, text_delimited, in_its_section, is_labelled, label_there, label_wanted, label_once, no_surplus, operands_fit, comma_there, text_there, symbols_defined, procedure_declared, routine_declared, count_known, is_judged, loose_fault, place_fault, shape_fault, conditions, fault_of}
-use Rattle.language.specs.Answer.{assembled, refused, incomplete, over_limit, short_room, first_fault, is_closed, is_complete, is_within, limits_kept, finished, judged, answer_of, left_of}
+use Rattle.language.specs.Fault.{deck_with, deck_in, bytes_printed, line_short, label_readable, forms_of, operands_formed, remark_there, text_delimited, in_its_section, is_labelled, label_there, label_wanted, label_once, no_surplus, operands_fit, comma_there, text_there, symbols_defined, procedure_declared, routine_declared, count_known, is_judged, loose_fault, place_fault, shape_fault, conditions, fault_of}
+use Rattle.language.specs.Answer.{assembled, refused, incomplete, over_limit, short_room, first_fault, is_closed, is_complete, is_within, limits_kept, finished, judged, left_of}
 
 -- too few operands; an EQU symbol of its own line, and of two lines with a fault the first
 abbrev samples : List Case

@@ -1,38 +1,15 @@
--- Words put one by one into lent words, and a state's words put in front.
+-- A state's words put in front of lent words.
 -- Assumes nothing.
-use Prim.Native.Nat.{ℕ, suc, ◌+◌, ◌<◌, ◌≤◌}
-use mathlib.Core.Path.{◌≡◌, refl, sym, ap, ◌∙◌}
-use mathlib.Core.List.{List, [], ◌∷◌, ◌++◌}
+use Prim.Native.Nat.{ℕ, ◌+◌}
+use mathlib.Core.Path.{◌≡◌, ap, ◌∙◌}
+use mathlib.Core.List.{List, ◌++◌}
 use native.Mathlib.Omega.{arith}
-use native.Mathlib.Nat.{add-zero}
-use lib.ListN.{length, drop, set, length-append, drop_of_length-le}
-use lib.Seq.{sets-eq, drop-cons}
-use Rattle.base.specs.Lists.{◌at◌}
+use lib.ListN.{length, drop, length-append}
 use Rattle.states.specs.declared.State.{State}
 use Rattle.snap_core.specs.Buffers.{put}
-use Rattle.snap_core.proofs.Puts.{put-nil, put-put}
+use Rattle.snap_core.proofs.Puts.{put-put}
 use Rattle.snap_core.proofs.Freshening.{put_front}
 use Rattle.lent.specs.Lent.{head_of, tail_of, words_from}
-
--- one store is a put of one word
-put-store : (l : List ℕ) (a x : ℕ) → a + 1 ≤ length l → set l a x ≡ put l a (x ∷ [])
-unfolding put
-put-store l a x h = sets-eq (x ∷ []) l a h
-
--- the next of words that are put one by one, the first of them, and none left
-pub word_next : (l : List ℕ) (a i : ℕ) (ws : List ℕ) → i < length ws → a + length ws ≤ length l
-    → put l (a + i) (drop i ws) ≡ put (set l (a + i) (ws at i)) (a + (i + 1)) (drop (i + 1) ws)
-word_next l a i ws b h =
-    let e : a + (i + 1) ≡ a + i + 1 = omega arith in
-    let s : i + 1 ≡ suc i = omega arith in
-    rw (e, s, drop-cons ws i 0 b, put-store l (a + i) (ws at i) (omega arith))
-    (sym (put-put l (a + i) (ws at i ∷ []) (drop (suc i) ws) (omega arith)))
-
-pub word_first : (l : List ℕ) (a : ℕ) (ws : List ℕ) → put l a ws ≡ put l (a + 0) (drop 0 ws)
-word_first l a ws = rw (add-zero a)
-
-pub word-last : (l : List ℕ) (a i : ℕ) (ws : List ℕ) → length ws ≤ i → put l (a + i) (drop i ws) ≡ l
-word-last l a i ws h = rw (drop_of_length-le ws h) (put-nil l (a + i))
 
 -- the words before the links, the links, then the words behind them
 pub state-put : (ws : List ℕ) (s : State) (head tail one two three : List ℕ) → length s.links ≡ 256 → head ≡ head_of s → tail ≡ tail_of s

@@ -3,7 +3,7 @@
 -- Taken where 01 is open: words behind these are not looked at; fewer words than these, or a flag or waiting word other than 0 or 1,
 -- fail the state check.
 -- Assumes nothing.
-use Rattle.std.specs.Prelude.{ℕ, ◌+◌, Bool, List, [], ◌∷◌, ◌++◌, eqb, leb, length, take, drop}
+use Rattle.std.specs.Prelude.{ℕ, Bool, List, [], ◌∷◌, ◌++◌, eqb, leb, length, take, drop}
 use Rattle.base.specs.Test.{◌and◌}
 use Rattle.base.specs.Lists.{◌at◌}
 use Rattle.ops.specs.Machine.{max_links}

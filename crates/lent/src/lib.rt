@@ -10,7 +10,7 @@ ghost use Rattle.lent.specs.Lent.{code_from, head_of, lawful, links_lent, tail_o
 use ops::constants::Machine;
 use states::{State, bit};
 
-// Where each word stands.
+// Where each word of a host's state stands, as the header has it.
 pub const XL: usize = 0;
 
 pub const XR: usize = 1;
@@ -63,11 +63,7 @@ pub fn links_of(words: &[u32]) -> [u32; Machine::MAX_LINKS]
     ensures { result ≡ links_lent words.now }
 {
     let mut links = [0u32; Machine::MAX_LINKS];
-    let mut i: usize = 0;
-    while i < Machine::MAX_LINKS {
-        links[i] = words[LINKS + i];
-        i += 1;
-    }
+    links.copy_from_slice(&words[LINKS..RA_LOW]);
     links
 }
 
@@ -127,12 +123,7 @@ pub fn put_words(words: &mut [u32], at: usize, from: &[u32])
     requires { at + length from.now ≤ length words.old }
     ensures { words.new ≡ put words.old at from.now }
 {
-    let n = from.len();
-    let mut i: usize = 0;
-    while i < n {
-        words[at + i] = from[i];
-        i += 1;
-    }
+    words[at..at + from.len()].copy_from_slice(from);
 }
 
 // The words of a state; words behind them stay.

@@ -5,7 +5,7 @@
 ghost use Rattle.std.specs.Prelude.{◌≡◌, length};
 ghost use Rattle.language.specs.Text.{lines};
 
-use asm_reader::{Step, line_at, line_behind};
+use asm_reader::{line_at, line_behind};
 use io::{print_decimal, read_full, write_all};
 
 // The numbers of the streams of input and of output.
@@ -33,11 +33,11 @@ fn tell_lines(text: &[u8]) -> usize
     let mut number: usize = 0;
     let mut at: usize = 0;
     loop {
-        let Step::Line { start, end } = line_at(text, at) else {
+        let Some(line) = line_at(text, at) else {
             return number;
         };
         number += 1;
-        tell_line(number, start, end);
+        tell_line(number, line.start, line.end);
         at = line_behind(text, at);
     }
 }

@@ -63,12 +63,9 @@ pub fn supply(memory: &mut [u32], table: &[u32], fresh: &[u32])
     requires { Ok (table_ok table.now) × (constants table.now + workings table.now ≤ length memory.old) × (length fresh.now ≡ fresh_count table.now) }
     ensures { memory.new ≡ refreshed table.now fresh.now memory.old }
 {
-    let f = fresh_count(table);
-    let mut i: usize = 0;
-    while i < f {
+    for (i, word) in fresh.iter().enumerate() {
         let at = fresh_index(table, i);
-        memory[at] = fresh[i];
-        i += 1;
+        memory[at] = *word;
     }
 }
 
@@ -79,10 +76,9 @@ pub fn fill(memory: &mut [u32], table: &[u32])
 {
     let from = start_base(table);
     let n = own_count(table);
-    let mut i: usize = 0;
-    while i < n {
+    // A copy by the library is one of memory that may overlap, for which a host would have to link memmove.
+    for i in 0..n {
         memory[i] = table[from + i];
-        i += 1;
     }
 }
 
@@ -100,9 +96,7 @@ pub fn clear(memory: &mut [u32], from: usize)
     ensures { memory.new ≡ take from memory.old ++ replicate (length memory.old - from) 0 }
 {
     let end = memory.len();
-    let mut i = from;
-    while i < end {
+    for i in from..end {
         memory[i] = 0;
-        i += 1;
     }
 }

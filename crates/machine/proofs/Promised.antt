@@ -8,7 +8,6 @@ use native.Mathlib.Omega.{arith}
 use borrow.Author.Tests.{lt-ltb}
 use lib.ListN.{length}
 use Rattle.base.specs.Test.{if}
-use Rattle.base.specs.Lists.{◌at◌}
 use Rattle.base.proofs.Bool.{test-true}
 use Rattle.ops.specs.Machine.{max_budget}
 use Rattle.rules.specs.Check.{table_ok}

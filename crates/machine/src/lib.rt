@@ -5,8 +5,8 @@
 
 ghost use Rattle.resuming.specs.Answers.{Runs};
 
-use admission::{Admission, check_state};
-use resuming::answers::{Answer, Ran, refused};
+use admission::check_state;
+use resuming::answers::{Ran, not_admitted, refused};
 use running::run_passed;
 use states::State;
 
@@ -19,8 +19,7 @@ pub fn run(table: &[u32], memory: &mut [u32], state: State, budget: u32) -> Ran
     ensures { Runs table.now state memory.old budget result memory.new }
 {
     match check_state(table, memory.len(), state) {
-        Admission::Granted => run_passed(table, memory, state, budget),
-        Admission::BadTable => refused(Answer::BadTable, state),
-        Admission::BadState => refused(Answer::BadState, state),
+        Ok(()) => run_passed(table, memory, state, budget),
+        Err(e) => refused(not_admitted(e), state),
     }
 }

@@ -13,8 +13,7 @@ use Rattle.base.specs.Test.{◌and◌, Ok}
 use Rattle.base.proofs.Bool.{ok-lt}
 use Rattle.ops.specs.Ops.{Row, rows, cells_of}
 use Rattle.ops.specs.Lookup.{row_of_number, no_row, row_at}
-use Rattle.ops.specs.declared.lookup.Lookup.{Lookup}
-use Rattle.ops.specs.declared.lookup.Lookup.TheVariants as found
+use Rattle.std.specs.Prelude.{Option, Some, None}
 use Rattle.ops.proofs.Every.{every, every-at}
 use Rattle.ops.proofs.Rows.{rows-count, rows-distinct, number-exactly, number-unknown, table-row}
 use Rattle.op_lookup.specs.Answers.{IndexOf, slot_of}
@@ -72,33 +71,33 @@ index-more i cells h x =
 pub index-whole : (cells : List ℕ) → IndexTo 106 cells → IndexOf cells
 index-whole cells x = record { size = x.size; slots = λ n h. at n h (row_of_number n) refl }
   where
-    at : (n : ℕ) → n < 1002 → (r : Lookup) → row_of_number n ≡ r → get_or cells n 0 ≡ slot_of r
-    at n h (found.Row j) e =
+    at : (n : ℕ) → n < 1002 → (r : Option ℕ) → row_of_number n ≡ r → get_or cells n 0 ≡ slot_of r
+    at n h (Some j) e =
         let p = (number-exactly n j).0 e in
         rw (← p.1) (x.rows j (rw (← rows-count) p.0))
-    at n h found.Unknown e = x.others n h (λ k d. (number-unknown n).0 e k (rw rows-count d))
+    at n h None e = x.others n h (λ k d. (number-unknown n).0 e k (rw rows-count d))
 
 -- what a cell tells of its number
 module _ (cells : List ℕ) (x : IndexOf cells) (n : ℕ) (h : n < 1002) where
-  pub slot-free : get_or cells n 0 ≡ 255 → found.Unknown ≡ row_of_number n
+  pub slot-free : get_or cells n 0 ≡ 255 → None ≡ row_of_number n
   slot-free e = go (row_of_number n) refl
     where
-      go : (r : Lookup) → row_of_number n ≡ r → found.Unknown ≡ r
-      go (found.Row j) q =
+      go : (r : Option ℕ) → row_of_number n ≡ r → None ≡ r
+      go (Some j) q =
           let p : j < 106 = rw (← rows-count) ((number-exactly n j).0 q).0 in
           let z : get_or cells n 0 ≡ j = x.slots n h ∙ ap slot_of q in
           absurd (omega arith)
-      go found.Unknown q = refl
+      go None q = refl
 
-  pub slot_row : (get_or cells n 0 ≡ 255 → ⊥) → found.Row (get_or cells n 0) ≡ row_of_number n
+  pub slot_row : (get_or cells n 0 ≡ 255 → ⊥) → Some (get_or cells n 0) ≡ row_of_number n
   slot_row e = go (row_of_number n) refl
     where
-      go : (r : Lookup) → row_of_number n ≡ r → found.Row (get_or cells n 0) ≡ r
-      go (found.Row j) q = ap found.Row (x.slots n h ∙ ap slot_of q)
-      go found.Unknown q = absurd (e (x.slots n h ∙ ap slot_of q))
+      go : (r : Option ℕ) → row_of_number n ≡ r → Some (get_or cells n 0) ≡ r
+      go (Some j) q = ap Some (x.slots n h ∙ ap slot_of q)
+      go None q = absurd (e (x.slots n h ∙ ap slot_of q))
 
 -- a number past the index is in no row
-pub past_index : (n : ℕ) → 1002 ≤ n → found.Unknown ≡ row_of_number n
+pub past_index : (n : ℕ) → 1002 ≤ n → None ≡ row_of_number n
 past_index n h =
     sym ((number-unknown n).1 (λ i g e. let l : (row_at i).number < 1002 = number-below i (rw (← rows-count) g) in omega arith))
 

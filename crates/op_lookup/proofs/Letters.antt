@@ -12,8 +12,8 @@ use Rattle.base.specs.Test.{◌and◌, Ok}
 use Rattle.base.proofs.Bool.{and_l, and_r, ok-eq, true-ok, failed}
 use Rattle.ops.specs.Ops.{rows, cells_of}
 use Rattle.ops.specs.Lookup.{by_letters, row_at}
-use Rattle.ops.specs.declared.lookup.Lookup.{Lookup}
-use Rattle.ops.specs.declared.lookup.Lookup.TheVariants as found
+use Rattle.std.specs.Prelude.{Option}
+use Rattle.std.specs.Prelude.{Some, None}
 use Rattle.ops.proofs.First.{row-known}
 use Rattle.ops.proofs.Rows.{rows-count, letters-apart, same_row, table-count, table-row}
 use Rattle.op_lookup.specs.Answers.{HasLetters, Answers, AnswersIn, lettered}
@@ -36,7 +36,7 @@ module _ (cells : List ℕ) (a b c : ℕ) where
 module _ (t : List (List ℕ)) (a b c : ℕ) where
   -- the row at i is the first that has the letters
   pub first-at : (i : ℕ) → i < length t → HasLetters (get_or t i []) a b c
-      → ((j : ℕ) → j < i → HasLetters (get_or t j []) a b c → ⊥) → AnswersIn t a b c (found.Row i)
+      → ((j : ℕ) → j < i → HasLetters (get_or t j []) a b c → ⊥) → AnswersIn t a b c (Some i)
   first-at i h e n =
       record {
         row = λ k. (
@@ -47,7 +47,7 @@ module _ (t : List (List ℕ)) (a b c : ℕ) where
               let u : i < k → ⊥ = λ l. p.2 i l e in
               let v : k < i → ⊥ = λ l. n k l p.1 in
               let z : i ≡ k = omega arith in
-              ap found.Row z,
+              ap Some z,
         );
         unknown = (λ q. absurd (row-known q), λ u. absurd (u i h e));
       }
@@ -62,7 +62,7 @@ module _ (t : List (List ℕ)) (a b c : ℕ) where
       go false q = n j (omega (arith, eqb-false j i q))
 
   -- no row has them
-  pub first-nowhere : ((i : ℕ) → i < length t → HasLetters (get_or t i []) a b c → ⊥) → AnswersIn t a b c found.Unknown
+  pub first-nowhere : ((i : ℕ) → i < length t → HasLetters (get_or t i []) a b c → ⊥) → AnswersIn t a b c None
   first-nowhere u =
       record {
         row = λ k. (λ q. absurd (row-known (sym q)), λ p. absurd (u k p.0 p.1));
@@ -77,7 +77,7 @@ same-letters i j a b c h g p q =
     (rw (p.first ∙ sym q.first, p.second ∙ sym q.second, p.third ∙ sym q.third))
 
 -- a look-up in the one table
-pub answers_of : (t : List (List ℕ)) → t ≡ map cells_of rows → (a b c : ℕ) (r : Lookup) → AnswersIn t a b c r → Answers a b c r
+pub answers_of : (t : List (List ℕ)) → t ≡ map cells_of rows → (a b c : ℕ) (r : Option ℕ) → AnswersIn t a b c r → Answers a b c r
 answers_of t e a b c r h =
     record {
       row = λ i. (

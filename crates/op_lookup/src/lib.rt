@@ -4,7 +4,6 @@
 ghost use Rattle.std.specs.Prelude.{◌≡◌};
 ghost use Rattle.op_lookup.specs.Answers.{AnswersIn, lettered};
 
-use ops::lookup::Lookup;
 use ops::table;
 
 pub mod cells;
@@ -25,15 +24,13 @@ fn has_letters(row: &[u8; table::CELLS], a: u8, b: u8, c: u8) -> bool
 
 // The look-up by letters in a list of rows, whatever stands there: row i exactly where row i is the first that has these letters, unknown
 // exactly where no row has.
-pub fn find_letters_in(rows: &[[u8; table::CELLS]], a: u8, b: u8, c: u8) -> Lookup
+pub fn find_letters_in(rows: &[[u8; table::CELLS]], a: u8, b: u8, c: u8) -> Option<usize>
     ensures { AnswersIn rows.now a b c result }
 {
-    let mut i: usize = 0;
-    while i < rows.len() {
+    for i in 0..rows.len() {
         if has_letters(&rows[i], a, b, c) {
-            return Lookup::Row(i);
+            return Some(i);
         }
-        i += 1;
     }
-    Lookup::Unknown
+    None
 }

@@ -5,7 +5,6 @@ ghost use Rattle.ops.specs.Ops.{cells_of, rows};
 ghost use Rattle.op_lookup.specs.Answers.{IndexOf};
 
 use crate::cells::wide;
-use ops::lookup::Lookup;
 use ops::table;
 use ops::table::Operations;
 
@@ -32,27 +31,25 @@ pub fn number_index(table: &Operations) -> NumberIndex
     ensures { IndexOf result }
 {
     let mut index = [NO_ROW; NUMBERS];
-    let mut k: usize = 0;
-    while k < table::COUNT {
-        let n = number_of(&table[k]);
+    for (k, row) in table.iter().enumerate() {
+        let n = number_of(row);
         index[n] = k as u8;
-        k += 1;
     }
     index
 }
 
 // The row that holds a number, by an index.
-pub fn find_number(index: &NumberIndex, n: u32) -> Lookup
+pub fn find_number(index: &NumberIndex, n: u32) -> Option<usize>
     requires { IndexOf index.now }
     ensures { result ≡ row_of_number n }
 {
     let k = n as usize;
     if NUMBERS <= k {
-        return Lookup::Unknown;
+        return None;
     }
     let row = index[k];
     if row == NO_ROW {
-        return Lookup::Unknown;
+        return None;
     }
-    Lookup::Row(wide(row))
+    Some(wide(row))
 }

@@ -10,7 +10,6 @@ ghost use Rattle.op_lookup.specs.Answers.{Answers};
 
 use op_lookup::find_letters_in;
 use ops::cells::*;
-use ops::lookup::Lookup;
 use ops::table::Operations;
 
 pub mod assembly;
@@ -134,7 +133,7 @@ pub fn rows() -> Operations
 
 // The look-up by three letters: row i exactly where row i has these letters, unknown exactly where no row has [02 Wish 4].
 // It copies the table: a loop over cards lends its own to `find_letters_in`.
-pub fn find_letters(a: u8, b: u8, c: u8) -> Lookup
+pub fn find_letters(a: u8, b: u8, c: u8) -> Option<usize>
     ensures { Answers a b c result }
 {
     let rows = rows();

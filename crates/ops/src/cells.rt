@@ -1,4 +1,4 @@
-// What the cells of the constant table hold, a byte each: formats by their codes, classes by their numbers.
+// What the cells of the constant table hold, a byte each: formats by their codes, classes by their numbers. A row is bytes, as the look-ups take it.
 use crate::class;
 
 // The codes of the formats.

@@ -1,6 +1,6 @@
--- The code's answers, operations and comparisons as the rules'.
+-- The code's answers, operations and comparisons as the rules'; of RTI's answer, the word that IA takes or none.
 -- Assumes nothing.
-use Rattle.std.specs.Prelude.{Bool, Float}
+use Rattle.std.specs.Prelude.{ℕ, Bool, Float, Option, Some, None}
 use Rattle.std.specs.Float.{binary64}
 use Rattle.std.specs.Float.Ieee.{add, sub, mul, div, eq, ne, lt, le}
 use Rattle.real_rules.specs.Real as R
@@ -11,16 +11,14 @@ use Rattle.reals.specs.declared.Arithmetic.{Arithmetic}
 use Rattle.reals.specs.declared.Arithmetic.TheVariants.{Sum, Difference, Product, Quotient}
 use Rattle.reals.specs.declared.Comparison.{Comparison}
 use Rattle.reals.specs.declared.Comparison.TheVariants.{Equal, NotLess, Greater, NotGreater, Less, NotEqual}
-use Rattle.reals.specs.declared.Whole.{Whole}
-use Rattle.reals.specs.declared.Whole.TheVariants.{Within, Beyond}
 
 abbrev pub real_view : Real → R.Real
 real_view (Finite x) = R.value x
 real_view Overflow = R.overflow
 
-abbrev pub whole_view : Whole → R.Whole
-whole_view (Within w) = R.within w
-whole_view Beyond = R.beyond
+abbrev pub whole_view : Option ℕ → R.Whole
+whole_view (Some w) = R.within w
+whole_view None = R.beyond
 
 -- an operation on two floats, rounded once, and a test of one
 abbrev pub on_values : Arithmetic → Float → Float → Float

@@ -53,13 +53,6 @@ pub enum Comparison {
     NotEqual,
 }
 
-// The answer of RTI: the word that IA takes, or none.
-#[derive(Clone, Copy)]
-pub enum Whole {
-    Within(u32),
-    Beyond,
-}
-
 // The 64 bits of two words.
 fn bits_of(lo: u32, hi: u32) -> u64
     ensures { result ≡ R.pair lo hi }
@@ -181,31 +174,31 @@ fn digits_of(lo: u32, hi: u32) -> u64
 }
 
 // The word of n with a sign, where it is in range.
-fn ranged(negative: bool, n: u64) -> Whole
+fn ranged(negative: bool, n: u64) -> Option<u32>
     ensures { whole_view result ≡ R.ranged (R.with_sign negative n) }
 {
     if negative {
         if n <= SIGN as u64 {
-            return Whole::Within(((SPAN - n) % SPAN) as u32);
+            return Some(((SPAN - n) % SPAN) as u32);
         }
-        return Whole::Beyond;
+        return None;
     }
     if n < SIGN as u64 {
-        return Whole::Within(n as u32);
+        return Some(n as u32);
     }
-    Whole::Beyond
+    None
 }
 
 // RTI: the whole part of a word pair, cut toward zero, exact from its bits: the digits shifted by what the exponent says.
-pub fn whole_of(lo: u32, hi: u32) -> Whole
+pub fn whole_of(lo: u32, hi: u32) -> Option<u32>
     ensures { whole_view result ≡ R.whole_of (R.real_of lo hi) }
 {
     let exponent = exponent_of(hi);
     if exponent < OF_ONE {
-        return Whole::Within(0);
+        return Some(0);
     }
     if OF_SPAN <= exponent {
-        return Whole::Beyond;
+        return None;
     }
     ranged(SIGN <= hi, digits_of(lo, hi) >> (OF_WHOLE - exponent))
 }

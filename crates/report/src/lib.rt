@@ -70,23 +70,14 @@ fn tell_state(state: &[u32]) {
 // A run of the table from its start.
 fn run_table(table: &[u32]) {
     let zeros = [0u32; Machine::MAX_FRESH];
-    let mut fresh: usize = 0;
-    if FRESH_COUNT < table.len() {
-        fresh = index(table[FRESH_COUNT]);
-    }
-    if Machine::MAX_FRESH < fresh {
-        fresh = 0;
-    }
-    run_fresh(table, &zeros, fresh);
+    let count = index(table.get(FRESH_COUNT).copied().unwrap_or(0));
+    run_fresh(table, zeros.get(..count).unwrap_or(&[]));
 }
 
-fn run_fresh(table: &[u32], zeros: &[u32], fresh: usize) {
-    if zeros.len() < fresh {
-        return;
-    }
+fn run_fresh(table: &[u32], fresh: &[u32]) {
     let mut memory = [0u32; MEMORY];
     let mut state = [0u32; WORDS];
-    let number = torzimlak_start(table, &mut memory, &zeros[0..fresh], 0, &mut state);
+    let number = torzimlak_start(table, &mut memory, fresh, 0, &mut state);
     if number != 0 {
         tell_answer(number as u64, 0);
         return;
@@ -94,14 +85,6 @@ fn run_fresh(table: &[u32], zeros: &[u32], fresh: usize) {
     let r = torzimlak_run(table, &mut memory, &mut state, BUDGET);
     tell_answer(r / UPPER, r % UPPER);
     tell_state(&state);
-}
-
-// The table at the front of the room.
-fn run_front(room: &[u32], len: usize) {
-    if room.len() < len {
-        return;
-    }
-    run_table(&room[0..len]);
 }
 
 // The line of the cards, without its end.
@@ -114,7 +97,9 @@ pub fn run_cards(cards: &[u8]) {
         tell_answer(number, value);
         return;
     }
-    run_front(&room, value as usize);
+    if let Some(table) = room.get(..value as usize) {
+        run_table(table);
+    }
 }
 
 // Whether nothing is left to read behind n bytes of a room: it is full, or one more read finds the end. What failed is told on standard error,

@@ -1,4 +1,4 @@
--- Words copied one by one, and the links of a state in the words that are lent and back.
+-- The links of a state in the words that are lent and back.
 -- Assumes nothing.
 use Prim.Native.Nat.{ℕ, ◌+◌, ◌-◌, ◌<◌, ◌≤◌}
 use mathlib.Core.Path.{◌≡◌, sym, ap, ◌∙◌}
@@ -12,17 +12,6 @@ use Rattle.states.proofs.Coded.{drop-replicate}
 use Rattle.states.proofs.Front.{links-front}
 use Rattle.exec_core.specs.Seen.{open_links}
 use Rattle.resuming.specs.Packing.{Linked}
-
--- one more word is copied
-pub copy-next : (from to : List ℕ) (i : ℕ) → i < length from → length to ≡ length from → take i to ≡ take i from
-    → take (i + 1) (set to i (from at i)) ≡ take (i + 1) from
-copy-next from to i h l e =
-    rw (add-one i)
-    (take-suc-set to i (from at i) (omega arith) ∙ ap (λ (x : List ℕ). x ++ (from at i ∷ [])) e ∙ sym (take-suc from i 0 h))
-
--- all are copied
-pub copy-last : (from to : List ℕ) (i : ℕ) → length from ≤ i → length to ≡ length from → take i to ≡ take i from → to ≡ from
-copy-last from to i h l e = sym (take_all i to (omega arith)) ∙ e ∙ take_all i from h
 
 -- k links of the array ls in the lent words
 unpacked-to : (ls x z : List ℕ) (k : ℕ) → k ≤ 256 → length ls ≡ 256 → length z ≡ 257 → x ≡ take k ls

@@ -1,13 +1,15 @@
 // The answers of a run and of a resume, each with its number [S Numbers the host sees].
 ghost use Rattle.std.specs.Prelude.{◌≡◌};
+ghost use Rattle.admission.specs.Admit.{refusal_of};
 ghost use Rattle.resuming.specs.Answers.{report_number, outcome_by, refusing, report_of};
 ghost use Rattle.resuming.specs.Answers as Report;
 
+use admission::Refusal;
 use exec_core::Answer as Code;
 use states::State;
 
 // How a run or a resume ends: a resume that goes on, waiting at the JSR of an EXP, budget used, or stopped by 22 to 29; or why it is
-// refused, by 30 to 33.
+// refused, by 30 to 33. It is no Result: each answer stands beside steps and a state, a refusal's too, and one table numbers them all.
 #[derive(Clone, Copy)]
 pub enum Answer {
     Resumed,
@@ -50,6 +52,16 @@ pub fn number(answer: Answer) -> u32
         Answer::BadState => 31,
         Answer::OverBudget => 32,
         Answer::NotResumable => 33,
+    }
+}
+
+// The answer of a call that the checks refuse.
+pub fn not_admitted(refusal: Refusal) -> Answer
+    ensures { report_of result ≡ Report.refuses (refusal_of refusal) }
+{
+    match refusal {
+        Refusal::BadTable => Answer::BadTable,
+        Refusal::BadState => Answer::BadState,
     }
 }
 

@@ -5,7 +5,7 @@
 
 ghost use Rattle.resuming.specs.Answers.{Resumes};
 
-use admission::{Admission, check_state};
+use admission::{Refusal, check_state};
 use answers::Answer;
 use states::State;
 use waiting::{Resumed, declined, resume_passed};
@@ -21,8 +21,8 @@ pub fn resume(table: &[u32], memory: &[u32], state: State, exit: u32) -> Resumed
     ensures { Resumes table.now state memory.now exit result }
 {
     match check_state(table, memory.len(), state) {
-        Admission::Granted => resume_passed(table, memory, state, exit),
-        Admission::BadTable => declined(Answer::BadTable, state),
-        Admission::BadState => declined(Answer::BadState, state),
+        Ok(()) => resume_passed(table, memory, state, exit),
+        Err(Refusal::BadTable) => declined(Answer::BadTable, state),
+        Err(Refusal::BadState) => declined(Answer::BadState, state),
     }
 }

@@ -1,5 +1,5 @@
 // The host's state as the words and links that the code of a step is lent, and back.
-ghost use Rattle.std.specs.Prelude.{◌≡◌, ◌≤◌, [], length};
+ghost use Rattle.std.specs.Prelude.{◌≡◌, ◌≤◌, []};
 ghost use Rattle.states.specs.Views.{code_of, state_of, words_of};
 ghost use Rattle.exec_core.specs.Seen.{open_links};
 ghost use Rattle.resuming.specs.Packing.{Linked, Packable, bare};
@@ -7,19 +7,6 @@ ghost use Rattle.resuming.specs.Packing.{Linked, Packable, bare};
 use bodies::entry::index;
 use ops::constants::Machine;
 use states::{State, bit, no_links};
-
-// The words of one slice in another of the same length.
-pub fn copy_words(from: &[u32], to: &mut [u32])
-    requires { length to.old ≡ length from.now }
-    ensures { to.new ≡ from.now }
-{
-    let n = from.len();
-    let mut i: usize = 0;
-    while i < n {
-        to[i] = from[i];
-        i += 1;
-    }
-}
 
 // The machine's own words.
 pub fn unpack_words(s: State) -> [u32; 16]
@@ -53,7 +40,7 @@ pub fn unpack_links(s: State) -> [u32; 257]
     let k = index(s.count);
     let from = s.links;
     let mut links = [0u32; 257];
-    copy_words(&from[..k], &mut links[..k]);
+    links[..k].copy_from_slice(&from[..k]);
     links[Machine::MAX_LINKS] = s.count;
     links
 }
@@ -66,7 +53,7 @@ pub fn pack(z: &[u32; 16], links: &[u32], p: usize, waiting: bool) -> State
     let count = links[Machine::MAX_LINKS];
     let k = index(count);
     let mut room = no_links();
-    copy_words(&links[..k], &mut room[..k]);
+    room[..k].copy_from_slice(&links[..k]);
     State {
         xl: z[Machine::XL],
         xr: z[Machine::XR],

@@ -1,14 +1,13 @@
 -- Tables whose faults tell a changed definition at once; those of crate `rules_faults` are many more.
 -- Assumes nothing.
-use Prim.Native.Nat.{ℕ}
-use mathlib.Core.Path.{◌≡◌, refl}
+use mathlib.Core.Path.{◌≡◌}
 use mathlib.Core.List.{List, [], ◌∷◌}
 use Rattle.base.specs.Test.{◌and◌, ◌or◌, if}
 use Rattle.base.specs.Lists.{member, same}
 use Rattle.ops.specs.Ops.{rows}
 use Rattle.rules.specs.Table.{size, constants, workings, fresh_count, externals, section4, section5, section6, fresh_at, exit_count, start_word, table_length, field, class_at, value, target1, target2, target3, executable, body_at, names_procedure, names_external, callee, declared}
-use Rattle.rules.specs.Check.{smaller, among, register_ok, value_ok, operand_ok, third_ok, fields_ok, apart, outside, reaches, is_outside, starts_section, all_exits, exit_list, iffs, value_known, unlike, distinct_iffs, switch_list, exit_number_ok, fault_at, rules_hold, sections_ok, fresh_ok, counts_ok, limits_ok, layout_ok, table_ok}
-use Rattle.rules.proofs.Faults.{expected_by, rows_from, entry_ok, entry_apart, fault_by, quick-failing, quick_below, quick_expected, quick_failing, quick_fault, Edit, card, put, head, tail, edited, Case, passes, breaks, breaks2, faults_below, refused_with, as_expected, failing, calling, switching, longer, shorter, unfit, plain}
+use Rattle.rules.specs.Check.{smaller, among, register_ok, value_ok, operand_ok, third_ok, apart, outside, reaches, is_outside, starts_section, all_exits, exit_list, iffs, value_known, unlike, distinct_iffs, switch_list, exit_number_ok, sections_ok, fresh_ok, counts_ok, limits_ok, layout_ok}
+use Rattle.rules.proofs.Faults.{expected_by, rows_from, entry_ok, entry_apart, fault_by, quick-failing, quick_below, quick_expected, quick_failing, quick_fault, card, put, tail, Case, breaks, failing, calling, switching, longer, unfit, plain}
 
 -- of the table with calls: a procedure that declares fewer exits, one that is never closed, RTN in one
 abbrev calls : List Case

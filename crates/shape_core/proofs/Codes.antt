@@ -1,15 +1,14 @@
 -- Classes by their numbers in the constant table: a test of a class is a test of its number.
 -- Assumes nothing.
-use Prim.Native.Nat.{ℕ, zero, suc, ◌+◌, ◌-◌, ◌*◌, ◌<◌, ◌≤◌}
+use Prim.Native.Nat.{ℕ, zero, suc, ◌-◌, ◌≤◌}
 use mathlib.Core.Path.{◌≡◌, refl, sym, ap, subst, ◌∙◌}
-use mathlib.Core.Bool.{Bool, true, false, not}
+use mathlib.Core.Bool.{Bool, true, false}
 use mathlib.Core.List.{List}
 use native.Mathlib.Omega.{arith}
 use lib.Dec.{eqb, ltb}
-use lib.ListN.{length, get_or}
-use borrow.Author.Tests.{eq-eqb, ne_eqb, eqb-true, eqb-false, le-ltb}
-use Rattle.base.specs.Test.{◌and◌, ◌or◌, if, Ok}
-use Rattle.base.proofs.Bool.{failed, passed, true-ok}
+use borrow.Author.Tests.{eqb-true, eqb-false}
+use Rattle.base.specs.Test.{if, Ok}
+use Rattle.base.proofs.Bool.{passed}
 use Rattle.ops.specs.Class.{Flow, Marker, Class, executes, marks, none, is, is_executable, class_code, goes, forks, BRN, JMG, BRI, BSW, ENT, RTN, JSR, EXI, SSS, ERB, CHK, PPM, ERR, IFF, ESW, PRC, ENP}
 use Rattle.ops.proofs.Classes.{is_eq}
 use Rattle.rules.specs.Check.{reaches, may_reach, must_reach, is_outside, global_target}

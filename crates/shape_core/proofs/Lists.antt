@@ -2,23 +2,22 @@
 -- Assumes nothing.
 use Prim.Native.Nat.{ℕ, zero, suc, ◌+◌, ◌-◌, ◌*◌, ◌<◌, ◌≤◌}
 use mathlib.Core.Path.{◌≡◌, refl, sym, ap, subst, ◌∙◌}
-use mathlib.Core.Bool.{Bool, true, false, not}
+use mathlib.Core.Bool.{Bool, true, false}
 use mathlib.Core.List.{List}
 use native.Mathlib.Omega.{arith}
 use native.Mathlib.Numerals.{add-one}
-use lib.Dec.{eqb, ltb}
-use lib.ListN.{length, get_or}
+use lib.Dec.{eqb}
+use lib.ListN.{get_or}
 use borrow.Author.Tests.{eq-eqb, ne_eqb, lt-ltb, le-ltb}
 use Rattle.base.specs.Test.{◌and◌, ◌or◌, if}
 use Rattle.base.proofs.Bool.{passed, if_no, if_yes}
-use Rattle.ops.specs.Class.{Class, executes, marks, is, class_code, JSR, PPM, ERR, IFF, PRC}
+use Rattle.ops.specs.Class.{marks, is, class_code, JSR, PPM, ERR, IFF, PRC}
 use Rattle.rules.specs.Check.{is_exit, all_exits, exit_list, iffs, is_named, holds, flow_rules, reaches}
 use Rattle.rules.specs.Table.{size, class_at, field, value, externals, fresh_count, exit_count, Callee, procedure, external, unnamed, names_procedure, names_external, callee, declared}
 use Rattle.rules.proofs.Facts.{in_table}
 use Rattle.table_layout.proofs.Belows.{and-true}
 use Rattle.shape_core.specs.Counted.{exits_of}
-use Rattle.shape_core.specs.declared.exits.Exits.{Exits}
-use Rattle.shape_core.specs.declared.exits.Exits.TheVariants as exits
+use Rattle.std.specs.Prelude.{Some, None}
 use Rattle.shape_core.proofs.Codes.{class-by, decoded, is_code}
 use Rattle.bodies.proofs.Places.{class-past}
 use Rattle.shape_core.proofs.Tests.{and_no, and_yes, and_none}
@@ -75,41 +74,41 @@ module _ (t : List ℕ) (p v : ℕ) (e : v ≡ get_or t (8 + 8 * p + 3) 0) where
   other-external h = and_no _ _ (ne_eqb _ _ h)
 
   pub exits-procedure : (k : ℕ) → k ≡ class_code (class_at t v) → get_or t (8 + 8 * p + 1) 0 ≡ 6 → k ≡ 17
-      → exits.Count (get_or t (8 + 8 * v + 3) 0) ≡ exits_of t (callee t p)
+      → Some (get_or t (8 + 8 * v + 3) 0) ≡ exits_of t (callee t p)
   unfolding callee value field
   exits-procedure k c q s =
       sym (ap (exits_of t) (chosen-procedure _ (names_external t p) _ (names-place k c q ∙ eq-eqb _ _ s)) ∙ rw (← e) refl)
 
   pub exits-no-procedure : (k : ℕ) → k ≡ class_code (class_at t v) → get_or t (8 + 8 * p + 1) 0 ≡ 6 → (k ≡ 17 → ⊥)
-      → exits.Unnamed ≡ exits_of t (callee t p)
+      → None ≡ exits_of t (callee t p)
   unfolding callee value field
   exits-no-procedure k c q s =
       sym (ap (exits_of t) (chosen_none (names_procedure t p) (names_external t p) _ (names-place k c q ∙ ne_eqb _ _ s) (other-external (λ z. omega (arith, z, q)))))
 
-  pub exits-no-kind : (get_or t (8 + 8 * p + 1) 0 ≡ 6 → ⊥) → (get_or t (8 + 8 * p + 1) 0 ≡ 23 → ⊥) → exits.Unnamed ≡ exits_of t (callee t p)
+  pub exits-no-kind : (get_or t (8 + 8 * p + 1) 0 ≡ 6 → ⊥) → (get_or t (8 + 8 * p + 1) 0 ≡ 23 → ⊥) → None ≡ exits_of t (callee t p)
   unfolding callee value field
   exits-no-kind h g = sym (ap (exits_of t) (chosen_none (names_procedure t p) (names_external t p) _ (other_place h) (other-external g)))
 
-  pub exits-far : (get_or t (8 + 8 * p + 1) 0 ≡ 6 → ⊥) → get_or t 4 0 ≤ v → exits.Unnamed ≡ exits_of t (callee t p)
+  pub exits-far : (get_or t (8 + 8 * p + 1) 0 ≡ 6 → ⊥) → get_or t 4 0 ≤ v → None ≡ exits_of t (callee t p)
   unfolding callee value field names_external externals
   exits-far h g =
       sym (ap (exits_of t) (chosen_none (names_procedure t p) (names_external t p) _ (other_place h) (and_none _ _ (le-ltb (get_or t (8 + 8 * p + 3) 0) (get_or t 4 0) (omega (arith, e, g))))))
 
   pub exits-external : (m f : ℕ) → m ≡ get_or t 0 0 → f ≡ get_or t 3 0 → (get_or t (8 + 8 * p + 1) 0 ≡ 6 → ⊥) → get_or t (8 + 8 * p + 1) 0 ≡ 23 → v < get_or t 4 0
-      → exits.Count (get_or t (8 + 8 * m + f + v) 0) ≡ exits_of t (callee t p)
+      → Some (get_or t (8 + 8 * m + f + v) 0) ≡ exits_of t (callee t p)
   unfolding callee value field names_external externals exit_count size fresh_count
   exits-external m f n g h q l =
       sym (ap (exits_of t) (chosen-external (names_procedure t p) (names_external t p) _ (other_place h) (and_yes _ _ (eq-eqb _ _ q) ∙ lt-ltb (get_or t (8 + 8 * p + 3) 0) (get_or t 4 0) (omega (arith, e, l)))) ∙ rw (← e, ← n, ← g) refl)
 
-count-differs : {A : Type 0} {k : ℕ} → exits.Count k ≡ exits.Unnamed → A
+count-differs : {A : Type 0} {k : ℕ} → Some k ≡ None → A
 count-differs e = let z : ◌≡◌ {A = ℕ} 0 1 = cc in absurd (omega arith)
 
-pub callee-unnamed : (t : List ℕ) (c : Callee) → exits_of t c ≡ exits.Unnamed → is_named c ≡ false
+pub callee-unnamed : (t : List ℕ) (c : Callee) → exits_of t c ≡ None → is_named c ≡ false
 callee-unnamed t (procedure q) e = count-differs e
 callee-unnamed t (external k) e = count-differs e
 callee-unnamed t unnamed e = refl
 
-pub callee_named : (t : List ℕ) (c : Callee) (k : ℕ) → exits_of t c ≡ exits.Count k → (is_named c ≡ true) × (declared t c ≡ k)
+pub callee_named : (t : List ℕ) (c : Callee) (k : ℕ) → exits_of t c ≡ Some k → (is_named c ≡ true) × (declared t c ≡ k)
 unfolding declared
 callee_named t (procedure q) k e = (refl, cc)
 callee_named t (external j) k e = (refl, cc)
@@ -117,10 +116,10 @@ callee_named t unnamed k e = count-differs (sym e)
 
 -- the rules of the JSR at p
 module _ (t : List ℕ) (p : ℕ) where
-  pub jsr-unnamed : exits_of t (callee t p) ≡ exits.Unnamed → false ≡ holds (flow_rules t p JSR)
+  pub jsr-unnamed : exits_of t (callee t p) ≡ None → false ≡ holds (flow_rules t p JSR)
   jsr-unnamed e = sym (and_no _ _ (callee-unnamed t (callee t p) e))
 
-  module _ (k : ℕ) (e : exits_of t (callee t p) ≡ exits.Count k) where
+  module _ (k : ℕ) (e : exits_of t (callee t p) ≡ Some k) where
     pub jsr-unlisted : exit_list t (p + 1) k ≡ false → false ≡ holds (flow_rules t p JSR)
     jsr-unlisted h =
         let n = callee_named t (callee t p) k e in

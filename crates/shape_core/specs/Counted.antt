@@ -1,17 +1,15 @@
 -- Lists in the terms of the code: the exits of a callee, the IFFs of a switch, one IFF of it, and the marks of values.
 -- Assumes nothing.
-use Rattle.std.specs.Prelude.{ℕ, suc, ◌+◌, ◌%◌, ◌≤◌, ◌≡◌, Bool, true, not, List, eqb, ltb, length, get_or}
+use Rattle.std.specs.Prelude.{ℕ, suc, ◌+◌, ◌%◌, ◌≤◌, ◌≡◌, Bool, true, not, Option, Some, None, List, eqb, ltb, length, get_or}
 use Rattle.base.specs.Test.{◌and◌, ◌or◌}
 use Rattle.rules.specs.Check.{iffs, switch_list, unlike, value_known}
 use Rattle.rules.specs.Table.{size, value, exit_count, Callee, procedure, external, unnamed}
-use Rattle.shape_core.specs.declared.exits.Exits.{Exits}
-use Rattle.shape_core.specs.declared.exits.Exits.TheVariants as exits
 
 -- the exits that a callee declares
-abbrev pub exits_of : List ℕ → Callee → Exits
-exits_of t (procedure q) = exits.Count (value t q)
-exits_of t (external k) = exits.Count (exit_count t k)
-exits_of t unnamed = exits.Unnamed
+abbrev pub exits_of : List ℕ → Callee → Option ℕ
+exits_of t (procedure q) = Some (value t q)
+exits_of t (external k) = Some (exit_count t k)
+exits_of t unnamed = None
 
 -- r IFFs stand from place p on, all inside the table
 pub record Counted (t : List ℕ) (p n r : ℕ) : Type 0 where

@@ -1,6 +1,6 @@
 -- What the shape rules' functions ask: a laid table of n entries, the class and the body of each place, and of the one past the last.
 -- Assumes nothing.
-use Rattle.std.specs.Prelude.{ℕ, suc, ◌<◌, ◌≤◌, ◌≡◌, Bool, List, eqb, length, get_or}
+use Rattle.std.specs.Prelude.{ℕ, suc, ◌<◌, ◌≤◌, ◌≡◌, List, eqb, length, get_or}
 use Rattle.base.specs.Test.{if}
 use Rattle.ops.specs.Class.{class_code}
 use Rattle.ops.specs.Format.{place_kind}

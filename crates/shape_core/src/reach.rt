@@ -10,59 +10,100 @@ use ops::class::*;
 use ops::format::PLACE_KIND;
 use table_layout::{KIND, KIND_TWO, VALUE, VALUE_TWO, index, word};
 
+// A laid table of n entries with what is known of its places: the class and the body of each, and of the one past the last.
+#[derive(Clone, Copy)]
+pub struct Places<'a> {
+    pub table: &'a [u32],
+    pub classes: &'a [u32],
+    pub body: &'a [u32],
+    pub n: usize,
+    ghost known: { Known table.now classes.now body.now n },
+}
+
 // The number of classes that can be executed.
 pub const EXECUTABLE: u32 = 13;
 
-// The class of any place.
-pub fn class_at(table: &[u32], classes: &[u32], body: &[u32], n: usize, q: usize) -> u32
-    requires { Known table.now classes.now body.now n }
-    ensures { result ≡ class_code (class_at table.now q) }
-{
-    if n <= q {
-        return NO_CLASS;
+impl<'a> Places<'a> {
+    // The class of any place.
+    pub fn class_at(&self, q: usize) -> u32
+        ensures { result ≡ class_code (class_at self.now.table.now q) }
+    {
+        if self.n <= q {
+            return NO_CLASS;
+        }
+        self.classes[q]
     }
-    classes[q]
-}
 
-// A place stands outside procedures.
-pub fn is_outside(table: &[u32], classes: &[u32], body: &[u32], n: usize, p: usize) -> bool
-    requires { Known table.now classes.now body.now n × (p ≤ n) }
-    ensures { result ≡ Check.outside table.now p }
-{
-    body[p] == 0
-}
-
-// q can be arrived at, and its body is b.
-fn enters(table: &[u32], classes: &[u32], body: &[u32], n: usize, q: usize, b: u32) -> bool
-    requires { Known table.now classes.now body.now n }
-    ensures { result ≡ (executable table.now q and eqb (body_at table.now q) b) }
-{
-    if n <= q {
-        return false;
+    // A place stands outside procedures.
+    pub fn is_outside(&self, p: usize) -> bool
+        requires { p ≤ self.now.n }
+        ensures { result ≡ Check.outside self.now.table.now p }
+    {
+        self.body[p] == 0
     }
-    if EXECUTABLE <= classes[q] {
-        return false;
+
+    // q can be arrived at, and its body is b.
+    fn enters(&self, q: usize, b: u32) -> bool
+        ensures { result ≡ (executable self.now.table.now q and eqb (body_at self.now.table.now q) b) }
+    {
+        if self.n <= q {
+            return false;
+        }
+        if EXECUTABLE <= self.classes[q] {
+            return false;
+        }
+        self.body[q] == b
     }
-    body[q] == b
+
+    // q can be arrived at and lies in the body of p.
+    pub fn reaches(&self, p: usize, q: usize) -> bool
+        requires { p ≤ self.now.n }
+        ensures { result ≡ Check.reaches self.now.table.now p q }
+    {
+        self.enters(q, self.body[p])
+    }
+
+    // q can be arrived at and stands outside procedures.
+    pub fn enters_outside(&self, q: usize) -> bool
+        ensures { result ≡ Check.is_outside self.now.table.now q }
+    {
+        self.enters(q, 0)
+    }
+
+    // A branch that may be missing stays in the body of p.
+    pub fn may_reach(&self, p: usize, x: usize) -> bool
+        requires { p ≤ self.now.n }
+        ensures { result ≡ Check.may_reach self.now.table.now p x }
+    {
+        if x == 0 {
+            return true;
+        }
+        self.reaches(p, x - 1)
+    }
+
+    // A branch that may not be missing stays in the body of p.
+    pub fn must_reach(&self, p: usize, x: usize) -> bool
+        requires { p ≤ self.now.n }
+        ensures { result ≡ Check.must_reach self.now.table.now p x }
+    {
+        if x == 0 {
+            return false;
+        }
+        self.reaches(p, x - 1)
+    }
+
+    // The target of a JMG stands outside procedures.
+    pub fn global_target(&self, x: usize) -> bool
+        ensures { result ≡ Check.global_target self.now.table.now x }
+    {
+        if x == 0 {
+            return false;
+        }
+        self.enters_outside(x - 1)
+    }
 }
 
-// q can be arrived at and lies in the body of p.
-pub fn reaches(table: &[u32], classes: &[u32], body: &[u32], n: usize, p: usize, q: usize) -> bool
-    requires { Known table.now classes.now body.now n × (p ≤ n) }
-    ensures { result ≡ Check.reaches table.now p q }
-{
-    enters(table, classes, body, n, q, body[p])
-}
-
-// q can be arrived at and stands outside procedures.
-pub fn enters_outside(table: &[u32], classes: &[u32], body: &[u32], n: usize, q: usize) -> bool
-    requires { Known table.now classes.now body.now n }
-    ensures { result ≡ Check.is_outside table.now q }
-{
-    enters(table, classes, body, n, q, 0)
-}
-
-// A place operand by its kind and its value: 0 for none, else 1 + the place.
+// A place operand by its kind and its value: 0 for none, else 1 + the place, and no Option, since a table holds its third operands so.
 fn target(kind: u32, v: u32) -> usize
     ensures { result ≡ target_of kind v }
 {
@@ -86,44 +127,4 @@ pub fn target_two(table: &[u32], p: usize) -> usize
     ensures { result ≡ target2 table.now p }
 {
     target(word(table, p, KIND_TWO), word(table, p, VALUE_TWO))
-}
-
-// A branch that may be missing stays in the body of p.
-pub fn may_reach(table: &[u32], classes: &[u32], body: &[u32], n: usize, p: usize, x: usize) -> bool
-    requires { Known table.now classes.now body.now n × (p ≤ n) }
-    ensures { result ≡ Check.may_reach table.now p x }
-{
-    if x == 0 {
-        return true;
-    }
-    reaches(table, classes, body, n, p, x - 1)
-}
-
-// A branch that may not be missing stays in the body of p.
-pub fn must_reach(
-    table: &[u32],
-    classes: &[u32],
-    body: &[u32],
-    n: usize,
-    p: usize,
-    x: usize,
-) -> bool
-    requires { Known table.now classes.now body.now n × (p ≤ n) }
-    ensures { result ≡ Check.must_reach table.now p x }
-{
-    if x == 0 {
-        return false;
-    }
-    reaches(table, classes, body, n, p, x - 1)
-}
-
-// The target of a JMG stands outside procedures.
-pub fn global_target(table: &[u32], classes: &[u32], body: &[u32], n: usize, x: usize) -> bool
-    requires { Known table.now classes.now body.now n }
-    ensures { result ≡ Check.global_target table.now x }
-{
-    if x == 0 {
-        return false;
-    }
-    enters_outside(table, classes, body, n, x - 1)
 }

@@ -3,7 +3,7 @@
 -- Assumes nothing.
 use Prim.Native.Nat.{ℕ, zero, suc, ◌+◌, ◌-◌, ◌*◌, ◌<◌, ◌≤◌}
 use mathlib.Core.Path.{◌≡◌, refl, sym, ap, subst, ◌∙◌}
-use mathlib.Core.Bool.{Bool, true, false, not}
+use mathlib.Core.Bool.{Bool, true, false}
 use mathlib.Core.List.{List}
 use mathlib.Core.Logic.{◌⊎◌, ⊎_elim, inl, inr, ◌≢◌}
 use native.Mathlib.Omega.{arith}
@@ -106,15 +106,7 @@ module _ (t seen : List ℕ) (limit p low k : ℕ) (a : Apart t seen limit p low
   pub all_apart : distinct_iffs t limit p k ≡ true
   all_apart = let s : p + 0 ≡ p = omega arith in subst (λ (x : ℕ). distinct_iffs t limit x k ≡ true) s (distinct_from k 0 (omega arith))
 
--- one more of the marks is looked at
-pub all_more : (seen : List ℕ) (i : ℕ) → ((j : ℕ) → j < i → get_or seen j 0 ≡ 0 → ⊥) → (get_or seen i 0 ≡ 0 → ⊥) → (j : ℕ) → j < i + 1 → get_or seen j 0 ≡ 0 → ⊥
-all_more seen i h n j l z = by (order j i)
-  where
-    by : (j < i) ⊎ ((j ≡ i) ⊎ (i < j)) → ⊥
-    by (inl b) = h j b z
-    by (inr (inl e)) = n (subst (λ (x : ℕ). get_or seen x 0 ≡ 0) e z)
-    by (inr (inr b)) = absurd (omega arith)
-
+-- all marks are set, by what an answer claims
 pub all_set : (r : Bool) (seen : List ℕ) (k : ℕ) → r ≡ true → Seen r seen k → (i : ℕ) → i < k → get_or seen i 0 ≡ 0 → ⊥
 all_set r seen k e s = subst (λ (x : Bool). Seen x seen k) e s
 

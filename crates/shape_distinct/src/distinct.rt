@@ -4,7 +4,6 @@ ghost use Rattle.std.specs.Prelude.{◌≡◌, ◌+◌, ◌*◌, ◌≤◌, leng
 ghost use Rattle.rules.specs.Check as Check;
 
 use crate::rise::by_order;
-use shape_values::finding::Finding;
 use shape_values::marks::by_marks;
 use shape_values::pairs::by_pairs;
 
@@ -16,12 +15,7 @@ fn past_marks(table: &[u32], limit: u32, p: usize, k: usize) -> bool
     requires { (p + k ≤ 16384) × (8 + 8 * (p + k) ≤ length table.now) }
     ensures { result ≡ Check.distinct_iffs table.now limit p k }
 {
-    let found = by_order(table, limit, p, k);
-    match found {
-        Finding::Holds => true,
-        Finding::Fails => false,
-        Finding::Open => by_pairs(table, limit, p, k),
-    }
+    by_order(table, limit, p, k).unwrap_or_else(|| by_pairs(table, limit, p, k))
 }
 
 // The values of the k IFFs from place p on are below the limit, and distinct.
@@ -32,10 +26,5 @@ pub fn are_distinct(table: &[u32], limit: u32, p: usize, k: usize) -> bool
     if k < FEW {
         return by_pairs(table, limit, p, k);
     }
-    let found = by_marks(table, limit, p, k);
-    match found {
-        Finding::Holds => true,
-        Finding::Fails => false,
-        Finding::Open => past_marks(table, limit, p, k),
-    }
+    by_marks(table, limit, p, k).unwrap_or_else(|| past_marks(table, limit, p, k))
 }

@@ -6,7 +6,6 @@ ghost use Rattle.shape_values.specs.Claims.{Claims};
 ghost use Rattle.shape_distinct.specs.Orders.{Seen, Valued};
 
 use ops::format::VALUE_KIND;
-use shape_values::finding::Finding;
 use table_layout::{KIND, VALUE, word};
 
 // The first k marks are set.
@@ -14,56 +13,49 @@ fn all_seen(seen: &[u8; 1024], k: usize) -> bool
     requires { k ≤ 1024 }
     ensures { Seen result seen.now k }
 {
-    let mut i: usize = 0;
-    while i < k {
-        if seen[i] == 0 {
-            return false;
-        }
-        i += 1;
-    }
-    true
+    !seen[..k].contains(&0)
 }
 
-// IFF i of the k from place p on has the value v of another, j: then the list fails, whatever its limit. Else it is open.
-fn doubled(table: &[u32], p: usize, k: usize, i: usize, j: usize, v: u32) -> Finding
+// IFF i of the k from place p on has the value v of another, j: then the list fails, whatever its limit. Else None.
+fn doubled(table: &[u32], p: usize, k: usize, i: usize, j: usize, v: u32) -> Option<bool>
     requires { (p + k ≤ 16384) × (8 + 8 * (p + k) ≤ length table.now) × (j < k) × Valued table.now (p + j) v }
     ensures { (limit : ℕ) → Claims result (Check.distinct_iffs table.now limit p k) }
 {
     if i == j {
-        return Finding::Open;
+        return None;
     }
     if k <= i {
-        return Finding::Open;
+        return None;
     }
     if word(table, p + i, KIND) != VALUE_KIND {
-        return Finding::Open;
+        return None;
     }
     if word(table, p + i, VALUE) != v {
-        return Finding::Open;
+        return None;
     }
-    Finding::Fails
+    Some(false)
 }
 
-// Along `order` the values of the k IFFs from place p on rise below the limit, and all k are there: they are distinct.
-fn rise(table: &[u32], limit: u32, p: usize, k: usize, order: &[u16; 1024]) -> Finding
+// Along `order` the values of the k IFFs from place p on rise below the limit, and all k are there: they are distinct. None: the order does not
+// tell.
+fn rise(table: &[u32], limit: u32, p: usize, k: usize, order: &[u16; 1024]) -> Option<bool>
     requires { (k ≤ 1024) × (p + k ≤ 16384) × (8 + 8 * (p + k) ≤ length table.now) }
     ensures { Claims result (Check.distinct_iffs table.now limit p k) }
 {
     let mut seen = [0u8; 1024];
     let mut low: u32 = 0;
     let mut last: usize = 0;
-    let mut j: usize = 0;
-    while j < k {
-        let q = shape_order::at(order[j]);
+    for j in 0..k {
+        let q = usize::from(order[j]);
         if k <= q {
-            return Finding::Open;
+            return None;
         }
         if word(table, p + q, KIND) != VALUE_KIND {
-            return Finding::Open;
+            return None;
         }
         let v = word(table, p + q, VALUE);
         if limit <= v {
-            return Finding::Fails;
+            return Some(false);
         }
         if v < low {
             return doubled(table, p, k, last, q, v);
@@ -71,21 +63,20 @@ fn rise(table: &[u32], limit: u32, p: usize, k: usize, order: &[u16; 1024]) -> F
         seen[q] = 1;
         low = v + 1;
         last = q;
-        j += 1;
     }
     if all_seen(&seen, k) {
-        return Finding::Holds;
+        return Some(true);
     }
-    Finding::Open
+    None
 }
 
-// The values of the k IFFs from place p on are below the limit, and distinct. Open: a value is not known, or the list is too long.
-pub fn by_order(table: &[u32], limit: u32, p: usize, k: usize) -> Finding
+// The values of the k IFFs from place p on are below the limit, and distinct. None: a value is not known, or the list is too long.
+pub fn by_order(table: &[u32], limit: u32, p: usize, k: usize) -> Option<bool>
     requires { (p + k ≤ 16384) × (8 + 8 * (p + k) ≤ length table.now) }
     ensures { Claims result (Check.distinct_iffs table.now limit p k) }
 {
     if shape_order::ROOM < k {
-        return Finding::Open;
+        return None;
     }
     let mut numbers = [0u16; 1024];
     shape_order::sort(table, p, k, &mut numbers);

@@ -1,17 +1,16 @@
 -- Laws of the values of a switch's IFFs, in the terms of the code: forward for one value, backward for all.
 -- Assumes nothing.
-use Rattle.std.proofs.Common.{◌≡◌, ℕ, zero, suc, ◌+◌, ◌-◌, ◌*◌, ◌%◌, ◌<◌, ◌≤◌, Bool, true, false, not, eqb, ◌≢◌, List, length, get_or, set, sym, refl, ap, ◌∙◌, subst, add-one, arith, length-set, get_or-set_other, get_or-set_same, le-ltb, lt-ltb, eq-eqb, ne_eqb}
-use Rattle.base.specs.Test.{◌and◌, ◌or◌}
+use Rattle.std.proofs.Common.{◌≡◌, ℕ, zero, suc, ◌+◌, ◌-◌, ◌*◌, ◌%◌, ◌<◌, ◌≤◌, Bool, true, false, not, eqb, ◌≢◌, Option, List, length, get_or, set, sym, refl, ap, ◌∙◌, subst, add-one, arith, length-set, get_or-set_other, get_or-set_same, le-ltb, lt-ltb, eq-eqb, ne_eqb}
+use Rattle.base.specs.Test.{◌and◌}
 use Rattle.rules.specs.Check.{unlike, distinct_iffs, value_known}
 use Rattle.rules.specs.Table.{field, value}
 use Rattle.shape_core.specs.Counted.{differs_at, fresh_at, Marked}
 use Rattle.shape_core.proofs.Tests.{and_no, and_yes, and_none, or_no, or_yes, not-no, not_yes}
 use Rattle.shape_values.specs.Claims.{Claims}
-use Rattle.shape_values.specs.declared.finding.Finding.{Finding}
 
--- the claim of a finding is that of an equal one
-pub claimed : (b : Bool) {f g : Finding} → f ≡ g → Claims f b → Claims g b
-claimed b e h = subst (λ (x : Finding). Claims x b) e h
+-- the claim of an answer is that of an equal one
+pub claimed : (b : Bool) {f g : Option Bool} → f ≡ g → Claims f b → Claims g b
+claimed b e h = subst (λ (x : Option Bool). Claims x b) e h
 
 -- one IFF, whose kind is j, and whose value is w
 module _ (t : List ℕ) (q : ℕ) {j : ℕ} (d : j ≡ get_or t (8 + 8 * q + 1) 0) where

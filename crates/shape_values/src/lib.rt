@@ -2,6 +2,5 @@
 // settles usual ones in one walk.
 #![tactic(auto)]
 
-pub mod finding;
 pub mod marks;
 pub mod pairs;

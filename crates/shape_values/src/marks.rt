@@ -6,7 +6,6 @@ ghost use Rattle.rules.specs.Check as Check;
 ghost use Rattle.shape_core.specs.Counted.{Marked, fresh_at};
 ghost use Rattle.shape_values.specs.Claims.{Claims};
 
-use crate::finding::Finding;
 use crate::pairs::unlike;
 use ops::format::VALUE_KIND;
 use table_layout::{KIND, VALUE, index, word};
@@ -19,30 +18,27 @@ const FREE: usize = 1024;
 
 const COMPARES: usize = 24;
 
-// The value of the IFF at q is below the limit and unlike those of the k after it, whose remainders are marked. Open: that asks for k compares,
+// The value of the IFF at q is below the limit and unlike those of the k after it, whose remainders are marked. None: that asks for k compares,
 // and fewer are spare.
-fn look(table: &[u32], marks: &[u8], limit: u32, q: usize, k: usize, spare: usize) -> Finding
+fn look(table: &[u32], marks: &[u8], limit: u32, q: usize, k: usize, spare: usize) -> Option<bool>
     requires { (q + 1 + k ≤ 16384) × (8 + 8 * (q + 1 + k) ≤ length table.now) × Marked table.now marks.now (q + 1) k }
     ensures { Claims result (fresh_at table.now limit q k) }
 {
     if word(table, q, KIND) != VALUE_KIND {
-        return Finding::Holds;
+        return Some(true);
     }
     let v = word(table, q, VALUE);
     if limit <= v {
-        return Finding::Fails;
+        return Some(false);
     }
     let i = index(v) % MARKS;
     if marks[i] == 0 {
-        return Finding::Holds;
+        return Some(true);
     }
     if spare < k {
-        return Finding::Open;
+        return None;
     }
-    if unlike(table, v, q + 1, k) {
-        return Finding::Holds;
-    }
-    Finding::Fails
+    Some(unlike(table, v, q + 1, k))
 }
 
 // The value of the IFF at q is marked by its remainder. The answer is with how many values it was compared: all k, or none.
@@ -62,26 +58,20 @@ fn mark(table: &[u32], marks: &mut [u8], q: usize, k: usize) -> usize
     k
 }
 
-// The values of the k IFFs from place p on are below the limit, and distinct. Open: too many share a remainder.
-pub fn by_marks(table: &[u32], limit: u32, p: usize, k: usize) -> Finding
+// The values of the k IFFs from place p on are below the limit, and distinct. None: too many share a remainder.
+pub fn by_marks(table: &[u32], limit: u32, p: usize, k: usize) -> Option<bool>
     requires { (p + k ≤ 16384) × (8 + 8 * (p + k) ≤ length table.now) }
     ensures { Claims result (Check.distinct_iffs table.now limit p k) }
 {
     let mut marks = [0u8; 1024];
     let mut spare: usize = FREE + COMPARES * k;
-    let mut left: usize = 0;
-    while left < k {
+    for left in 0..k {
         let q = p + (k - left - 1);
-        let found = look(table, &marks, limit, q, left, spare);
-        match found {
-            Finding::Open => return Finding::Open,
-            Finding::Fails => return Finding::Fails,
-            Finding::Holds => {
-                let spent = mark(table, &mut marks, q, left);
-                spare = std::num::wrapping_sub_usize(spare, spent);
-                left += 1;
-            }
+        if !look(table, &marks, limit, q, left, spare)? {
+            return Some(false);
         }
+        let spent = mark(table, &mut marks, q, left);
+        spare = std::num::wrapping_sub_usize(spare, spent);
     }
-    Finding::Holds
+    Some(true)
 }

@@ -22,12 +22,10 @@ pub fn unlike(table: &[u32], v: u32, p: usize, k: usize) -> bool
     requires { (p + k ≤ 16384) × (8 + 8 * (p + k) ≤ length table.now) }
     ensures { result ≡ Check.unlike table.now v p k }
 {
-    let mut i: usize = 0;
-    while i < k {
+    for i in 0..k {
         if !differs(table, p + i, v) {
             return false;
         }
-        i += 1;
     }
     true
 }
@@ -52,12 +50,10 @@ pub fn by_pairs(table: &[u32], limit: u32, p: usize, k: usize) -> bool
     requires { (p + k ≤ 16384) × (8 + 8 * (p + k) ≤ length table.now) }
     ensures { result ≡ Check.distinct_iffs table.now limit p k }
 {
-    let mut left: usize = 0;
-    while left < k {
+    for left in 0..k {
         if !is_fresh(table, limit, p + (k - left - 1), left) {
             return false;
         }
-        left += 1;
     }
     true
 }

@@ -2,21 +2,21 @@
 -- Assumes nothing.
 use Prim.Native.Nat.{ℕ, zero, suc, ◌+◌, ◌-◌, ◌*◌, ◌<◌, ◌≤◌}
 use mathlib.Core.Path.{◌≡◌, refl, sym, ap, subst, ◌∙◌}
-use mathlib.Core.Bool.{Bool, true, false, not}
+use mathlib.Core.Bool.{Bool, false, not}
 use mathlib.Core.List.{List}
 use native.Mathlib.Omega.{arith}
 use native.Mathlib.Numerals.{add-one}
 use lib.Dec.{eqb, ltb, leb}
-use lib.ListN.{length, get_or}
-use borrow.Author.Tests.{eq-eqb, ne_eqb, lt-ltb, le-ltb, le-leb, lt-leb}
-use Rattle.base.specs.Test.{◌and◌, ◌or◌, if}
-use Rattle.ops.specs.Class.{Class, Marker, executes, marks, none, is, class_code, JSR, BSW, EXI, IFF, PPM, ERR, ESW, PRC, ENP}
+use lib.ListN.{get_or}
+use borrow.Author.Tests.{lt-ltb, le-ltb}
+use Rattle.base.specs.Test.{◌and◌, ◌or◌}
+use Rattle.ops.specs.Class.{Class, executes, marks, none, is, class_code, JSR, BSW, EXI, IFF, PPM, ERR, ESW, PRC, ENP}
 use Rattle.ops.specs.Format.{no_kind}
-use Rattle.rules.specs.Check.{reaches, may_reach, must_reach, global_target, is_exit, below_exit, below_iff, exit_number_ok, holds, flow_rules, marker_rules, outside}
-use Rattle.rules.specs.Table.{size, class_at, field, value, declared, procedure, target3, body_at, body_after}
+use Rattle.rules.specs.Check.{reaches, may_reach, must_reach, global_target, is_exit, below_exit, below_iff, exit_number_ok, holds, flow_rules}
+use Rattle.rules.specs.Table.{size, class_at, field, value, declared, target3, body_at, body_after}
 use Rattle.table_layout.proofs.Belows.{and-true}
 use Rattle.shape_core.proofs.Codes.{is_code}
-use Rattle.shape_core.proofs.Tests.{and_no, and_yes, and_none, or_no, or_yes}
+use Rattle.shape_core.proofs.Tests.{and_no, and_yes, and_none}
 
 module _ (t : List ℕ) (p : ℕ) (b : Bool) where
   pub goes-is : b ≡ reaches t p (p + 1) → reaches t p (suc p) ≡ b

@@ -2,38 +2,34 @@
 ghost use Rattle.std.specs.Prelude.{◌≡◌, ◌≤◌, ◌<◌};
 ghost use Rattle.ops.specs.Class.{goes, forks, BRN, JMG, ENT, EXI, PPM, ERR, IFF, ESW, PRC, ENP};
 ghost use Rattle.rules.specs.Check as Check;
-ghost use Rattle.shape_core.specs.Known.{Known};
 
 use ops::class;
-use shape_core::exits::is_exit;
-use shape_core::reach::{
-    EXECUTABLE, class_at, is_outside, may_reach, must_reach, target_one, target_two,
-};
+use shape_core::reach::{EXECUTABLE, Places, target_one, target_two};
 use table_layout::index;
 
 // The card above is an exit card or a JSR.
-fn below_exit(table: &[u32], classes: &[u32], body: &[u32], n: usize, p: usize) -> bool
-    requires { Known table.now classes.now body.now n × (p < n) }
-    ensures { result ≡ Check.below_exit table.now p }
+fn below_exit(places: &Places<'_>, p: usize) -> bool
+    requires { p < places.now.n }
+    ensures { result ≡ Check.below_exit places.now.table.now p }
 {
     if p == 0 {
         return false;
     }
-    if class_at(table, classes, body, n, p - 1) == class::JSR {
+    if places.class_at(p - 1) == class::JSR {
         return true;
     }
-    is_exit(table, classes, body, n, p - 1)
+    places.is_exit(p - 1)
 }
 
 // The card above is an IFF or a BSW.
-pub fn below_iff(table: &[u32], classes: &[u32], body: &[u32], n: usize, p: usize) -> bool
-    requires { Known table.now classes.now body.now n × (p < n) }
-    ensures { result ≡ Check.below_iff table.now p }
+pub fn below_iff(places: &Places<'_>, p: usize) -> bool
+    requires { p < places.now.n }
+    ensures { result ≡ Check.below_iff places.now.table.now p }
 {
     if p == 0 {
         return false;
     }
-    let k = class_at(table, classes, body, n, p - 1);
+    let k = places.class_at(p - 1);
     if k == class::BSW {
         return true;
     }
@@ -41,63 +37,63 @@ pub fn below_iff(table: &[u32], classes: &[u32], body: &[u32], n: usize, p: usiz
 }
 
 // PPM stands in an exit list and stays in its body.
-pub fn ppm_ok(table: &[u32], classes: &[u32], body: &[u32], n: usize, p: usize) -> bool
-    requires { Known table.now classes.now body.now n × (p < n) }
-    ensures { result ≡ Check.holds (Check.marker_rules table.now p PPM) }
+pub fn ppm_ok(places: &Places<'_>, p: usize) -> bool
+    requires { p < places.now.n }
+    ensures { result ≡ Check.holds (Check.marker_rules places.now.table.now p PPM) }
 {
-    if !below_exit(table, classes, body, n, p) {
+    if !below_exit(places, p) {
         return false;
     }
-    let one = target_one(table, p);
-    may_reach(table, classes, body, n, p, one)
+    let one = target_one(places.table, p);
+    places.may_reach(p, one)
 }
 
 // ERR stands in an exit list.
-pub fn err_ok(table: &[u32], classes: &[u32], body: &[u32], n: usize, p: usize) -> bool
-    requires { Known table.now classes.now body.now n × (p < n) }
-    ensures { result ≡ Check.holds (Check.marker_rules table.now p ERR) }
+pub fn err_ok(places: &Places<'_>, p: usize) -> bool
+    requires { p < places.now.n }
+    ensures { result ≡ Check.holds (Check.marker_rules places.now.table.now p ERR) }
 {
-    below_exit(table, classes, body, n, p)
+    below_exit(places, p)
 }
 
 // IFF stands in a switch and stays in its body.
-pub fn iff_ok(table: &[u32], classes: &[u32], body: &[u32], n: usize, p: usize) -> bool
-    requires { Known table.now classes.now body.now n × (p < n) }
-    ensures { result ≡ Check.holds (Check.marker_rules table.now p IFF) }
+pub fn iff_ok(places: &Places<'_>, p: usize) -> bool
+    requires { p < places.now.n }
+    ensures { result ≡ Check.holds (Check.marker_rules places.now.table.now p IFF) }
 {
-    if !below_iff(table, classes, body, n, p) {
+    if !below_iff(places, p) {
         return false;
     }
-    let two = target_two(table, p);
-    must_reach(table, classes, body, n, p, two)
+    let two = target_two(places.table, p);
+    places.must_reach(p, two)
 }
 
 // ESW closes a switch.
-pub fn esw_ok(table: &[u32], classes: &[u32], body: &[u32], n: usize, p: usize) -> bool
-    requires { Known table.now classes.now body.now n × (p < n) }
-    ensures { result ≡ Check.holds (Check.marker_rules table.now p ESW) }
+pub fn esw_ok(places: &Places<'_>, p: usize) -> bool
+    requires { p < places.now.n }
+    ensures { result ≡ Check.holds (Check.marker_rules places.now.table.now p ESW) }
 {
-    below_iff(table, classes, body, n, p)
+    below_iff(places, p)
 }
 
 // PRC opens a procedure outside procedures, which is closed, and is followed by an operation that can be arrived at.
-pub fn prc_ok(table: &[u32], classes: &[u32], body: &[u32], n: usize, p: usize) -> bool
-    requires { Known table.now classes.now body.now n × (p < n) }
-    ensures { result ≡ Check.holds (Check.marker_rules table.now p PRC) }
+pub fn prc_ok(places: &Places<'_>, p: usize) -> bool
+    requires { p < places.now.n }
+    ensures { result ≡ Check.holds (Check.marker_rules places.now.table.now p PRC) }
 {
-    if !is_outside(table, classes, body, n, p) {
+    if !places.is_outside(p) {
         return false;
     }
-    if EXECUTABLE <= classes[p + 1] {
+    if EXECUTABLE <= places.classes[p + 1] {
         return false;
     }
-    index(body[n]) != p + 1
+    index(places.body[places.n]) != p + 1
 }
 
 // ENP closes a procedure.
-pub fn enp_ok(table: &[u32], classes: &[u32], body: &[u32], n: usize, p: usize) -> bool
-    requires { Known table.now classes.now body.now n × (p < n) }
-    ensures { result ≡ Check.holds (Check.marker_rules table.now p ENP) }
+pub fn enp_ok(places: &Places<'_>, p: usize) -> bool
+    requires { p < places.now.n }
+    ensures { result ≡ Check.holds (Check.marker_rules places.now.table.now p ENP) }
 {
-    !is_outside(table, classes, body, n, p)
+    !places.is_outside(p)
 }

@@ -8,7 +8,7 @@ use mathlib.Core.Logic.{◌≢◌}
 use native.Mathlib.Omega.{arith}
 use native.Mathlib.Nat.{zero-add}
 use lib.ListN.{length, drop}
-use Rattle.base.specs.Test.{Ok, ◌and◌}
+use Rattle.base.specs.Test.{Ok}
 use Rattle.base.specs.Lists.{◌at◌}
 use Rattle.base.proofs.Bool.{and_i, eq-ok}
 use Rattle.words.specs.Words.{bytes_of}

@@ -7,7 +7,6 @@ use native.Mathlib.Omega.{arith}
 use lib.ListN.{length, take, drop}
 use lib.Seq.{drop-cons}
 use Rattle.base.specs.Test.{Ok}
-use Rattle.base.specs.Lists.{◌at◌}
 use Rattle.rules.specs.Table.{entry_at, fresh_at, fresh_count, size}
 use Rattle.rules.specs.Check.{table_ok}
 use Rattle.rules.specs.Snapshot.{fresh_list}

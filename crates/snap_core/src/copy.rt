@@ -33,11 +33,8 @@ pub fn read_words(file: &[u8], at: usize, ws: &mut [u32])
     requires { at + 4 * length ws.old ≤ length file.now }
     ensures { ws.new ≡ words_in file.now at (length ws.old) }
 {
-    let n = ws.len();
-    let mut i: usize = 0;
-    while i < n {
-        ws[i] = read_word(file, at + WORD * i);
-        i += 1;
+    for (i, w) in ws.iter_mut().enumerate() {
+        *w = read_word(file, at + WORD * i);
     }
 }
 
@@ -46,11 +43,8 @@ pub fn write_words(file: &mut [u8], at: usize, ws: &[u32])
     requires { at + 4 * length ws.now ≤ length file.old }
     ensures { file.new ≡ put file.old at (bytes_from ws.now) }
 {
-    let n = ws.len();
-    let mut i: usize = 0;
-    while i < n {
-        write_word(file, at + WORD * i, ws[i]);
-        i += 1;
+    for (i, w) in ws.iter().enumerate() {
+        write_word(file, at + WORD * i, *w);
     }
 }
 
@@ -59,13 +53,10 @@ pub fn same_words(file: &[u8], at: usize, ws: &[u32]) -> bool
     requires { at + 4 * length ws.now ≤ length file.now }
     ensures { result ≡ same (words_in file.now at (length ws.now)) ws.now }
 {
-    let n = ws.len();
-    let mut i: usize = 0;
-    while i < n {
-        if read_word(file, at + WORD * i) != ws[i] {
+    for (i, w) in ws.iter().enumerate() {
+        if read_word(file, at + WORD * i) != *w {
             return false;
         }
-        i += 1;
     }
     true
 }

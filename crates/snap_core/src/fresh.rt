@@ -15,11 +15,8 @@ pub fn write_memory(file: &mut [u8], table: &[u32], memory: &[u32])
     ensures { file.new ≡ put file.old 0 (bytes_from (hidden table.now memory.now)) }
 {
     write_words(file, 0, memory);
-    let f = fresh_count(table);
-    let mut i: usize = 0;
-    while i < f {
+    for i in 0..fresh_count(table) {
         write_word(file, WORD * fresh_index(table, i), 0);
-        i += 1;
     }
 }
 
@@ -28,13 +25,10 @@ pub fn fresh_hidden(file: &[u8], at: usize, m: usize, table: &[u32]) -> bool
     requires { Ok (table_ok table.now) × (constants table.now + workings table.now ≤ m) × (at + 4 * m ≤ length file.now) }
     ensures { result ≡ fresh_hidden table.now (words_in file.now at m) (fresh_count table.now) }
 {
-    let f = fresh_count(table);
-    let mut i: usize = 0;
-    while i < f {
+    for i in 0..fresh_count(table) {
         if read_word(file, at + WORD * fresh_index(table, i)) != 0 {
             return false;
         }
-        i += 1;
     }
     true
 }

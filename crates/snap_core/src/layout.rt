@@ -31,7 +31,7 @@ pub fn old_form() -> Form
     Form { reals: 0 }
 }
 
-// A word as an index.
+// A word as an index: a function, so that each use has its value for the proofs.
 pub fn index(x: u32) -> usize
     ensures { result ≡ x }
 {

@@ -15,7 +15,7 @@ use loading::{WORD, fresh_base, fresh_count};
 use ops::constants::Machine;
 use reals::reals_ok;
 
-// The words of the trailer from the build number on, in their order.
+// The words of the trailer from the build number on, in their order in the file.
 pub const BUILD: usize = 0;
 
 pub const SIZE: usize = 1;

@@ -1,15 +1,14 @@
 -- The machine that a file holds: its links in an array, its state in code and back, and the tests of what it holds.
 -- Assumes nothing.
-use Prim.Native.Nat.{ℕ, ◌+◌, ◌-◌, ◌<◌, ◌≤◌}
+use Prim.Native.Nat.{ℕ, ◌-◌, ◌<◌, ◌≤◌}
 use mathlib.Core.Path.{◌≡◌, refl, sym, ap, ◌∙◌}
 use mathlib.Core.Bool.{Bool, false}
 use mathlib.Core.List.{List, ◌++◌}
 use native.Mathlib.Omega.{arith}
 use lib.ListN.{length, take, drop, replicate, length-replicate}
 use lib.Seq.{length-take-le}
-use Rattle.base.specs.Test.{Ok, ◌and◌}
+use Rattle.base.specs.Test.{Ok}
 use Rattle.base.proofs.Bool.{and_l}
-use Rattle.rules.specs.State as Rules
 use Rattle.rules.specs.State.{state_ok}
 use Rattle.rules.specs.Control.{state_at}
 use Rattle.rules.specs.Snapshot.{frozen_in, frozen_ok, links_from, links_in, memory_from, memory_in, trailer_ok, words_in}

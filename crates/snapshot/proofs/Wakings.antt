@@ -10,7 +10,6 @@ use lib.ListN.{length}
 use Rattle.base.specs.Test.{Ok}
 use Rattle.base.proofs.Bool.{and_l, unless-no, unless-yes}
 use Rattle.rules.specs.Number.{Refusal, bad_table, bad_trailer, other_program, bad_frozen, fresh_count_off, memory_length_off}
-use Rattle.rules.specs.State as Rules
 use Rattle.rules.specs.Check.{table_ok}
 use Rattle.rules.specs.Table.{constants, fresh_count, workings}
 use Rattle.rules.specs.Start.{refreshed}
@@ -20,44 +19,44 @@ use Rattle.rules.proofs.Files.{state-limits}
 use Rattle.rules.proofs.Restores.{wakes-restore}
 use Rattle.states.specs.declared.State.{State}
 use Rattle.states.specs.Views.{code_of}
-use Rattle.snapshot.specs.Answers.{Restores, restored_by, refusing}
-use Rattle.snapshot.specs.declared.waking.Answer.{Answer}
-use Rattle.snapshot.specs.declared.waking.Answer.TheVariants.{Woken, BadTable, BadTrailer, OtherProgram, BadFrozen, FreshCountOff, MemoryLengthOff}
-use Rattle.snapshot.specs.declared.waking.Restored.{Restored}
+use Rattle.snapshot.specs.Answers.{Restores, refusal_of, refusing, waking}
+use Rattle.std.specs.Prelude.{Result}
+use Rattle.snapshot.specs.declared.waking.RestoreError.{RestoreError}
+use Rattle.snapshot.specs.declared.waking.RestoreError.TheVariants.{BadTable, BadTrailer, OtherProgram, BadFrozen, FreshCountOff, MemoryLengthOff}
 use Rattle.snapshot.proofs.Machines.{frozen-view}
 
 -- a refusal
-refuses : (t file : List ℕ) (build : ℕ) (fs lent : List ℕ) (r : Restored) (a : Answer) (e : Refusal)
-    → ((s : Rules.State) → restored_by a s ≡ unwoken e) → restore_of t file build fs lent ≡ unwoken e → r ≡ refusing a
+refuses : (t file : List ℕ) (build : ℕ) (fs lent : List ℕ) (r : Result State RestoreError) (a : RestoreError) (e : Refusal)
+    → refusal_of a ≡ e → restore_of t file build fs lent ≡ unwoken e → r ≡ refusing a
     → Restores t file build fs lent r lent
 refuses t file build fs lent r a e v u h =
-    record { answer = rw (h, u) (v _); memory = rw u; state = rw (h, u) }
+    record { answer = rw (h, v, u); memory = rw u; state = rw (h, u) }
 
-module _ (t file : List ℕ) (build : ℕ) (fs lent : List ℕ) (r : Restored) where
+module _ (t file : List ℕ) (build : ℕ) (fs lent : List ℕ) (r : Result State RestoreError) where
   -- 30
   pub refuses-table : table_ok t ≡ false → r ≡ refusing BadTable → Restores t file build fs lent r lent
   unfolding restore_of
-  refuses-table a h = refuses t file build fs lent r BadTable bad_table (λ s. refl) (unless-no _ _ _ a) h
+  refuses-table a h = refuses t file build fs lent r BadTable bad_table refl (unless-no _ _ _ a) h
 
   module _ (ok : table_ok t ≡ true) where
     -- 40
     pub refuses-trailer : trailer_ok file ≡ false → r ≡ refusing BadTrailer → Restores t file build fs lent r lent
     unfolding restore_of
-    refuses-trailer a h = refuses t file build fs lent r BadTrailer bad_trailer (λ s. refl) (unless-yes _ _ _ ok ∙ unless-no _ _ _ a) h
+    refuses-trailer a h = refuses t file build fs lent r BadTrailer bad_trailer refl (unless-yes _ _ _ ok ∙ unless-no _ _ _ a) h
 
     module _ (trailed : trailer_ok file ≡ true) where
       -- 41
       pub refuses-program : same_program t build file ≡ false → r ≡ refusing OtherProgram → Restores t file build fs lent r lent
       unfolding restore_of
       refuses-program a h =
-          refuses t file build fs lent r OtherProgram other_program (λ s. refl) (unless-yes _ _ _ ok ∙ unless-yes _ _ _ trailed ∙ unless-no _ _ _ a) h
+          refuses t file build fs lent r OtherProgram other_program refl (unless-yes _ _ _ ok ∙ unless-yes _ _ _ trailed ∙ unless-no _ _ _ a) h
 
       module _ (program : same_program t build file ≡ true) where
         -- 42
         pub refuses-frozen : frozen_ok t (frozen_in file) ≡ false → r ≡ refusing BadFrozen → Restores t file build fs lent r lent
         unfolding restore_of
         refuses-frozen a h =
-            refuses t file build fs lent r BadFrozen bad_frozen (λ s. refl)
+            refuses t file build fs lent r BadFrozen bad_frozen refl
             (unless-yes _ _ _ ok ∙ unless-yes _ _ _ trailed ∙ unless-yes _ _ _ program ∙ unless-no _ _ _ a) h
 
         module _ (frozen : frozen_ok t (frozen_in file) ≡ true) where
@@ -65,7 +64,7 @@ module _ (t file : List ℕ) (build : ℕ) (fs lent : List ℕ) (r : Restored) w
           pub refuses-supply : (length fs ≡ fresh_count t → ⊥) → r ≡ refusing FreshCountOff → Restores t file build fs lent r lent
           unfolding restore_of
           refuses-supply a h =
-              refuses t file build fs lent r FreshCountOff fresh_count_off (λ s. refl)
+              refuses t file build fs lent r FreshCountOff fresh_count_off refl
               (unless-yes _ _ _ ok ∙ unless-yes _ _ _ trailed ∙ unless-yes _ _ _ program ∙ unless-yes _ _ _ frozen ∙ unless-no _ _ _ (ne_eqb _ _ a)) h
 
           module _ (supply : length fs ≡ fresh_count t) where
@@ -73,7 +72,7 @@ module _ (t file : List ℕ) (build : ℕ) (fs lent : List ℕ) (r : Restored) w
             pub refuses-lending : (length lent ≡ memory_in file → ⊥) → r ≡ refusing MemoryLengthOff → Restores t file build fs lent r lent
             unfolding restore_of
             refuses-lending a h =
-                refuses t file build fs lent r MemoryLengthOff memory_length_off (λ s. refl)
+                refuses t file build fs lent r MemoryLengthOff memory_length_off refl
                 (unless-yes _ _ _ ok ∙ unless-yes _ _ _ trailed ∙ unless-yes _ _ _ program ∙ unless-yes _ _ _ frozen ∙ unless-yes _ _ _ (eq-eqb _ _ supply)
                 ∙ unless-no _ _ _ (ne_eqb _ _ a)) h
 
@@ -90,9 +89,9 @@ frozen-own t file h =
     omega (arith, (state-limits t (frozen_in file) (and_l _ _ h)).room, length-words_in file (memory_from file) (memory_in file))
 
 -- the machine is woken
-pub wakes : (t file : List ℕ) (build : ℕ) (fs lent after : List ℕ) (r : Restored) → Ok (table_ok t) → Ok (trailer_ok file)
+pub wakes : (t file : List ℕ) (build : ℕ) (fs lent after : List ℕ) (r : Result State RestoreError) → Ok (table_ok t) → Ok (trailer_ok file)
     → Ok (same_program t build file) → Ok (frozen_ok t (frozen_in file)) → length fs ≡ fresh_count t → length lent ≡ memory_in file
-    → r ≡ record { answer = Woken; state = code_of (frozen_in file) }
+    → r ≡ waking (code_of (frozen_in file))
     → after ≡ refreshed t fs (words_in file (memory_from file) (memory_in file)) → Restores t file build fs lent r after
 unfolding frozen_in
 wakes t file build fs lent after r ok trailed program frozen supply lending h e =

@@ -8,8 +8,8 @@ ghost use Rattle.snapshot.specs.Answers.{Restores, Writes};
 
 use states::State;
 use tables::check_table;
-use waking::{Answer, Restored, refused, restore_checked};
-use writing::{Written, write_checked};
+use waking::{RestoreError, restore_checked};
+use writing::{WriteError, write_checked};
 
 pub mod frozen;
 pub mod waking;
@@ -23,21 +23,27 @@ pub fn restore(
     build: u32,
     fresh: &[u32],
     memory: &mut [u32],
-) -> Restored
+) -> Result<State, RestoreError>
     ensures { Restores table.now file.now build fresh.now memory.old result memory.new }
 {
     if !check_table(table) {
-        return refused(Answer::BadTable);
+        return Err(RestoreError::BadTable);
     }
     restore_checked(table, file, build, fresh, memory)
 }
 
 // The machine's file at the front of the room, its length L answered. Refused: 30 the table, 31 the state, 45 room under L.
-pub fn write(table: &[u32], memory: &[u32], state: State, build: u32, file: &mut [u8]) -> Written
+pub fn write(
+    table: &[u32],
+    memory: &[u32],
+    state: State,
+    build: u32,
+    file: &mut [u8],
+) -> Result<usize, WriteError>
     ensures { Writes table.now (state_of state memory.now) build file.old result file.new }
 {
     if !check_table(table) {
-        return Written::BadTable;
+        return Err(WriteError::BadTable);
     }
     write_checked(table, memory, state, build, file)
 }

@@ -16,10 +16,9 @@ use snap_core::layout::{index, written_length};
 use state_check::passing::state_ok;
 use states::{State, bit};
 
-// What the writer answers: the length L of the file, or why there is none, with the numbers 30, 31, 45.
+// Why no file is written, with the numbers 30, 31, 45.
 #[derive(Clone, Copy)]
-pub enum Written {
-    Filled(usize),
+pub enum WriteError {
     BadTable,
     BadState,
     ShortRoom,
@@ -72,24 +71,24 @@ pub fn write_file(file: &mut [u8], table: &[u32], memory: &[u32], state: State, 
     write_words(file, at + WORD * (k + f), &words);
 }
 
-// The machine's file at the front of the room. Refused: 31 a state that does not pass, 45 room under L.
+// The machine's file at the front of the room, its length L answered. Refused: 31 a state that does not pass, 45 room under L.
 pub fn write_checked(
     table: &[u32],
     memory: &[u32],
     state: State,
     build: u32,
     file: &mut [u8],
-) -> Written
+) -> Result<usize, WriteError>
     requires { Ok (table_ok table.now) }
     ensures { Writes table.now (state_of state memory.now) build file.old result file.new }
 {
     if !state_ok(table, memory.len(), state) {
-        return Written::BadState;
+        return Err(WriteError::BadState);
     }
     let len = written_length(memory.len() as u32, state.count, table[3]) as usize;
     if file.len() < len {
-        return Written::ShortRoom;
+        return Err(WriteError::ShortRoom);
     }
     write_file(file, table, memory, state, build);
-    Written::Filled(len)
+    Ok(len)
 }

@@ -13,8 +13,7 @@ use Rattle.rules.proofs.Canonical.{BegunIs, begun-is}
 use Rattle.rules.proofs.Starts.{started-fresh, started-passes}
 use Rattle.states.specs.declared.State.{State}
 use Rattle.states.specs.Views.{state_of}
-use Rattle.starting.specs.Answers.{Starts}
-use Rattle.starting.specs.declared.Answer.TheVariants.{Begun}
+use Rattle.starting.specs.Answers.{Starts, beginning}
 
 module _ (t fs : List ℕ) (x : ℕ) where
   -- what holds of a program that begins
@@ -27,7 +26,7 @@ module _ (t fs : List ℕ) (x : ℕ) where
   begins-so : (m : List ℕ) → BegunIs Begins (start_on t m fs x)
   begins-so m = begun-is Begins t m fs x (λ ok fits. (started-passes t m fs x ok fits, record { fresh = started-fresh t m fs x ok fits }))
 
-  module _ (k : Mode) (lent : List ℕ) (s : State) (mem : List ℕ) (done : Starts k t lent fs x (record { answer = Begun; state = s }) mem) where
+  module _ (k : Mode) (lent : List ℕ) (s : State) (mem : List ℕ) (done : Starts k t lent fs x (beginning s) mem) where
     -- a program that has begun passes the state check
     pub begun-passes : Ok (state_ok t (state_of s mem))
     begun-passes = (subst (BegunIs Begins) (sym done.answer) (begins-so (initial k lent))).0

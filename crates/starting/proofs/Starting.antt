@@ -12,7 +12,7 @@ use lib.Seq.{ext_get_or}
 use Rattle.base.specs.Test.{Ok}
 use Rattle.base.specs.Lists.{◌at◌}
 use Rattle.base.proofs.Bool.{true-ok, unless-no, unless-yes}
-use Rattle.rules.specs.Number.{Refusal, refused_by, bad_table, unfit_memory, fresh_count_off}
+use Rattle.rules.specs.Number.{Refusal, bad_table, unfit_memory, fresh_count_off}
 use Rattle.rules.specs.State.{memory_fits}
 use Rattle.rules.specs.Check.{table_ok}
 use Rattle.rules.specs.Table.{constants, fresh_count, workings}
@@ -20,12 +20,13 @@ use Rattle.rules.specs.Start.{Mode, begun, initial, loaded, plain, started, star
 use Rattle.rules.proofs.Memory.{length-loaded, loaded-behind, loaded-program, zeros-at}
 use Rattle.rules.proofs.Starts.{length-initial, own-fits}
 use Rattle.loading.proofs.Loads.{cleared-behind, cleared-front, length-cleared}
+use Rattle.std.specs.Prelude.{Result}
+use Rattle.states.specs.declared.State.{State}
 use Rattle.states.specs.Views.{fresh_of, state_of}
 use Rattle.states.proofs.Coded.{code_view, fresh-view}
-use Rattle.starting.specs.Answers.{Starts, kept_in, refusing, verdict_of}
-use Rattle.starting.specs.declared.Answer.{Answer}
-use Rattle.starting.specs.declared.Answer.TheVariants.{Begun, BadTable, UnfitMemory, FreshCountOff}
-use Rattle.starting.specs.declared.Started.{Started}
+use Rattle.starting.specs.Answers.{Starts, beginning, kept_in, refusal_of, refusing}
+use Rattle.starting.specs.declared.StartError.{StartError}
+use Rattle.starting.specs.declared.StartError.TheVariants.{BadTable, UnfitMemory, FreshCountOff}
 
 -- memory as it is loaded, with zeros behind what is kept of it, is what the program begins with
 cleared-loaded : (k : Mode) (t lent fs : List ℕ) → Ok (table_ok t) → constants t + workings t ≤ length lent
@@ -57,7 +58,7 @@ cleared-loaded k t lent fs ok fit =
     by_mode warm p l = cleared-front (length lent) (loaded t fs lent) (length (loaded t fs lent) - length lent) p l
 
 -- a refusal
-refuses : (k : Mode) (t lent fs : List ℕ) (x : ℕ) (r : Started) (a : Answer) (e : Refusal) → verdict_of a ≡ refused_by e
+refuses : (k : Mode) (t lent fs : List ℕ) (x : ℕ) (r : Result State StartError) (a : StartError) (e : Refusal) → refusal_of a ≡ e
     → start_of k t lent fs x ≡ unbegun e → r ≡ refusing a → Starts k t lent fs x r lent
 refuses k t lent fs x r a e v u h = record { answer = rw (h, v, u); memory = rw u; state = rw (h, u) }
 
@@ -66,7 +67,7 @@ started-view : (t m fs : List ℕ) (x : ℕ) → state_of (fresh_of t (length m)
 unfolding started
 started-view t m fs x = rw (← fresh-view t m fs x) (code_view (started t m fs x) (loaded t fs m) refl (omega arith) (omega arith))
 
-module _ (k : Mode) (t lent fs : List ℕ) (x : ℕ) (r : Started) where
+module _ (k : Mode) (t lent fs : List ℕ) (x : ℕ) (r : Result State StartError) where
   -- 30
   pub refuses-table : table_ok t ≡ false → r ≡ refusing BadTable → Starts k t lent fs x r lent
   unfolding start_on
@@ -92,7 +93,7 @@ module _ (k : Mode) (t lent fs : List ℕ) (x : ℕ) (r : Started) where
           (unless-yes _ _ _ ok ∙ unless-yes _ _ _ (fits-initial true fits) ∙ unless-no _ _ _ (ne_eqb _ _ a)) h
 
       -- the program begins
-      pub begins : (from : ℕ) (after : List ℕ) → length fs ≡ fresh_count t → r ≡ record { answer = Begun; state = fresh_of t (length lent) x }
+      pub begins : (from : ℕ) (after : List ℕ) → length fs ≡ fresh_count t → r ≡ beginning (fresh_of t (length lent) x)
           → from ≡ kept_in k t (length lent) → after ≡ take from (loaded t fs lent) ++ replicate (length (loaded t fs lent) - from) 0
           → Starts k t lent fs x r after
       unfolding start_on started

@@ -6,7 +6,7 @@ ghost use Rattle.std.specs.Prelude.{◌≡◌};
 ghost use Rattle.rules.specs.Number.{verdict_number};
 ghost use Rattle.base.specs.Test.{Ok};
 ghost use Rattle.rules.specs.Check.{table_ok};
-ghost use Rattle.starting.specs.Answers.{Starts, kept_in, mode_of, refusing, verdict_of};
+ghost use Rattle.starting.specs.Answers.{Starts, kept_in, mode_of, verdict_of};
 
 use loading::{clear, fresh_count, load, own_count};
 use state_check::passing::memory_fits;
@@ -20,40 +20,24 @@ pub enum Mode {
     Warm,
 }
 
-// What a start answers: the program has begun, or why not, with the numbers 0, 30, 10, 43.
+// Why a program has not begun, with the numbers 30, 10, 43.
 #[derive(Clone, Copy)]
-pub enum Answer {
-    Begun,
+pub enum StartError {
     BadTable,
     UnfitMemory,
     FreshCountOff,
 }
 
-// The answer, and the state beside its memory; a refusal's state is blank.
-#[derive(Clone, Copy)]
-pub struct Started {
-    pub answer: Answer,
-    pub state: State,
-}
-
-// The number of an answer.
-pub fn number(answer: Answer) -> u32
+// The number of an answer, 0 where the program has begun.
+pub fn number(answer: Result<(), StartError>) -> u32
     ensures { result ≡ verdict_number (verdict_of answer) }
 {
     match answer {
-        Answer::Begun => 0,
-        Answer::BadTable => 30,
-        Answer::UnfitMemory => 10,
-        Answer::FreshCountOff => 43,
+        Ok(()) => 0,
+        Err(StartError::BadTable) => 30,
+        Err(StartError::UnfitMemory) => 10,
+        Err(StartError::FreshCountOff) => 43,
     }
-}
-
-// A refusal.
-pub fn refused(answer: Answer) -> Started
-    ensures { result ≡ refusing answer }
-{
-    let state = State::blank();
-    Started { answer, state }
 }
 
 // How many words of memory, of len, a start keeps from the first on: the program's own, or all.
@@ -68,25 +52,28 @@ fn kept(mode: Mode, table: &[u32], len: usize) -> usize
 }
 
 // A program at the start of section 4: the table's words in memory from 0 on, the host's fresh words, and all other words 0, or as lent by a warm
-// start; the host's argument in WA. Refused: 30 the table, 10 the length of memory, 43 the count of fresh words.
-pub fn start(mode: Mode, table: &[u32], memory: &mut [u32], fresh: &[u32], argument: u32) -> Started
+// start; the host's argument in WA. The answer is the state beside its memory. Refused: 30 the table, 10 the length of memory, 43 the count of fresh words.
+pub fn start(
+    mode: Mode,
+    table: &[u32],
+    memory: &mut [u32],
+    fresh: &[u32],
+    argument: u32,
+) -> Result<State, StartError>
     ensures { Starts (mode_of mode) table.now memory.old fresh.now argument result memory.new }
 {
     if !check_table(table) {
-        return refused(Answer::BadTable);
+        return Err(StartError::BadTable);
     }
     if !memory_fits(table, memory.len()) {
-        return refused(Answer::UnfitMemory);
+        return Err(StartError::UnfitMemory);
     }
     if fresh.len() != fresh_count(table) {
-        return refused(Answer::FreshCountOff);
+        return Err(StartError::FreshCountOff);
     }
     let from = kept(mode, table, memory.len());
     load(memory, table, fresh);
     clear(memory, from);
     let state = State::fresh(table, memory.len(), argument);
-    Started {
-        answer: Answer::Begun,
-        state,
-    }
+    Ok(state)
 }

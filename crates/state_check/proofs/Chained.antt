@@ -3,13 +3,13 @@
 use Prim.Native.Nat.{ℕ, zero, suc, ◌+◌, ◌-◌, ◌<◌, ◌≤◌}
 use mathlib.Core.Path.{◌≡◌, refl, sym, ap, ◌∙◌}
 use mathlib.Core.Bool.{Bool, true, false}
-use mathlib.Core.List.{List, [], ◌∷◌, ◌++◌}
+use mathlib.Core.List.{List, [], ◌∷◌}
 use mathlib.Core.Logic.{◌⊎◌, inl, inr}
 use native.Mathlib.Omega.{arith}
 use native.Mathlib.Numerals.{add-one}
 use lib.Dec.{eqb, ltb}
 use lib.ListN.{length, get_or, take, drop, drop_of_length-le}
-use lib.Seq.{drop-cons, get_or-take, length-take-le, take-suc}
+use lib.Seq.{drop-cons, take-suc}
 use borrow.Author.Tests.{lt-ltb, eq-eqb, ne_eqb}
 use Rattle.base.specs.Test.{◌and◌}
 use Rattle.rules.specs.State.{chain, held, opened, top_link}
@@ -34,8 +34,8 @@ pub chain-over : (t : List ℕ) (b : ℕ) (ls : List ℕ) → chain t b ls ≡ c
 chain-over t b [] = refl
 chain-over t b (j ∷ ls) = rw (held_by_lem t (body_at t j) b, chain-over t (suc j) ls) refl
 
-pub chain-done : (t : List ℕ) (o k i : ℕ) (l : List ℕ) → k ≤ length l → i ≡ k → chain_over t o (drop i (take k l)) ≡ true
-chain-done t o k i l h e = rw (drop_of_length-le (take k l) {i = i} (omega (arith, length-take-le k l h))) refl
+pub chain-done : (t : List ℕ) (o k i : ℕ) (l : List ℕ) → length (take k l) ≤ i → chain_over t o (drop i (take k l)) ≡ true
+chain-done t o k i l h = rw (drop_of_length-le (take k l) {i = i} h) refl
 
 unheld : (d o : ℕ) → (d ≡ 0 → ⊥) → (o ≡ d → ⊥) → held_by d o ≡ false
 unheld zero o n m = absurd (n refl)
@@ -56,12 +56,10 @@ positive zero q = absurd (q refl)
 positive (suc m) q = omega arith
 
 -- what the loop does with the link x at i of k links of the array l, above a link that opened o; c is what x opens
-module _ (t : List ℕ) (o k i x c : ℕ) (l : List ℕ) (h : k ≤ length l) (g : i < k) (e : x ≡ get_or l i 0) (f : c ≡ calls t x) where
+module _ (t : List ℕ) (o k i x c : ℕ) (l : List ℕ) (g : i < length (take k l)) (e : x ≡ get_or (take k l) i 0) (f : c ≡ calls t x) where
   chain_next : chain_over t o (drop i (take k l)) ≡ ltb 0 c and held_by (body_at t x) o and chain_over t c (drop (i + 1) (take k l))
   chain_next =
-      let d : i < length (take k l) = omega (arith, length-take-le k l h) in
-      let y : get_or (take k l) i 0 ≡ x = get_or-take k l i 0 g ∙ sym e in
-      rw (drop-cons (take k l) i 0 d, y, f, add-one i) refl
+      rw (drop-cons (take k l) i 0 g, ← e, f, add-one i) refl
 
   pub chain-uncalled : c ≡ 0 → chain_over t o (drop i (take k l)) ≡ false
   unfolding ◌and◌

@@ -8,13 +8,13 @@ use native.Mathlib.Omega.{arith}
 use native.Mathlib.Numerals.{add-one}
 use lib.ListN.{get_or, length, take}
 use lib.Seq.{get_or-take, length-take-le}
-use Rattle.base.specs.Test.{Ok, ◌and◌, if}
+use Rattle.base.specs.Test.{Ok, if}
 use Rattle.base.proofs.Bool.{and-3, and_l, and_r, failed, ok-eq, ok-lt, passed, test-true}
 use Rattle.ops.specs.Class.{Class, JSR, executes, is}
 use Rattle.ops.proofs.Classes.{is_eq}
 use Rattle.real_rules.proofs.Held.{RealOk}
 use Rattle.rules.specs.Check.{layout_ok, table_ok}
-use Rattle.rules.specs.State.{chain, held, is_external, opened, state_ok, top_link, wait_ok}
+use Rattle.rules.specs.State.{chain, held, is_external, state_ok, top_link, wait_ok}
 use Rattle.rules.specs.Table.{Callee, body_at, callee, calls, class_at, declared, executable, exit_count, external, externals, field, names_external, names_procedure, procedure, size, table_length, unnamed, value}
 use Rattle.rules.proofs.Exits.{reaches-executable}
 use Rattle.rules.proofs.Facts.{in_table, rule-when}

@@ -8,6 +8,7 @@ use bodies::entry::{ENTRY, EXTERNALS, HEADER, JSR, KIND, PRC, VALUE, index};
 use ops::format::{EXTERNAL_KIND, PLACE_KIND};
 
 // 1 + the place of the PRC that the JSR at place j names, or 0 where there is no such JSR; j may lie past the table.
+// A number, since it is compared with the words of the bodies.
 pub fn callee_of(t: &[u32], n: usize, j: usize) -> usize
     requires { Entries t.now n }
     ensures { result ≡ calls t.now j }
@@ -42,7 +43,8 @@ pub fn awaits(t: &[u32], n: usize, p: usize) -> bool
     if t[HEADER + ENTRY * p] != JSR {
         return false;
     }
-    if t[HEADER + ENTRY * p + KIND] != EXTERNAL_KIND {
+    let kind = t[HEADER + ENTRY * p + KIND];
+    if kind != EXTERNAL_KIND {
         return false;
     }
     t[HEADER + ENTRY * p + VALUE] < t[EXTERNALS]

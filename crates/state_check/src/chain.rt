@@ -13,9 +13,8 @@ pub fn chained(t: &[u32], n: usize, body: &[u32], links: &[u32], k: usize) -> bo
     ensures { result ≡ chain t.now 0 (take k links.now) }
 {
     let mut beneath: usize = 0;
-    let mut i: usize = 0;
-    while i < k {
-        let j = index(links[i]);
+    for link in &links[..k] {
+        let j = index(*link);
         let to = callee_of(t, n, j);
         if to == 0 {
             return false;
@@ -27,7 +26,6 @@ pub fn chained(t: &[u32], n: usize, body: &[u32], links: &[u32], k: usize) -> bo
             }
         }
         beneath = to;
-        i += 1;
     }
     true
 }

@@ -6,7 +6,7 @@ ghost use Rattle.base.specs.Test.{Ok};
 ghost use Rattle.rules.specs.Check.{table_ok};
 ghost use Rattle.rules.specs.Snapshot as Snapshot;
 ghost use Rattle.rules.specs.State.{memory_fits};
-ghost use Rattle.states.specs.Views.{blank, fresh_of};
+ghost use Rattle.states.specs.Views.{fresh_of};
 
 use bodies::entry::{CONSTANTS, WORKINGS};
 use ops::constants::Machine;
@@ -51,30 +51,6 @@ pub fn no_links() -> [u32; 256]
 }
 
 impl State {
-    // Nothing but 0: what stands beside a refusal where no state was lent.
-    pub fn blank() -> State
-        ensures { result ≡ blank }
-    {
-        let links = no_links();
-        State {
-            xl: 0,
-            xr: 0,
-            xs: 0,
-            wa: 0,
-            wb: 0,
-            wc: 0,
-            ia: 0,
-            flag: false,
-            pc: 0,
-            waiting: false,
-            count: 0,
-            links,
-            ra_low: 0,
-            ra_high: 0,
-            real_flag: 0,
-        }
-    }
-
     // The fresh state: section 4 begins with it, in len words of memory and with the host's argument in WA [S The house machine].
     pub fn fresh(table: &[u32], len: usize, argument: u32) -> State
         requires { Ok (table_ok table.now) × Ok (memory_fits table.now len) }

@@ -12,8 +12,7 @@ use Rattle.base.proofs.Bool.{ok-lt}
 use Rattle.ops.specs.Lookup.{first_with, by_cell}
 use Rattle.ops.specs.Distinct.{apart}
 use Rattle.supplied.specs.Supplied.{Supply, supplies, packed_name, name_of, by_name, no_supply, value_at, supplied_of, supply_cells}
-use Rattle.supplied.specs.declared.Supplied.{Supplied}
-use Rattle.supplied.specs.declared.Supplied.TheVariants.{Value, Absent}
+use Rattle.std.specs.Prelude.{Option, Some, None}
 use Rattle.ops.proofs.First.{cells-first}
 use Rattle.ops.proofs.Every.{every, every-at}
 
@@ -45,12 +44,12 @@ unfolding supplied_of
 names-found t q a b c d e = ap value_at (cells-first supply_cells supplies t q (packed_name a b c d e))
 
 -- a name as it is written
-abbrev named : String → Supplied
+abbrev named : String → Option ℕ
 named s = value_at (first_with by_name (name_of s) 0 supplies)
 
 -- CH$LZ is supplied; CH$L$ and the other CFP$ names of the description are not [S The house machine]
 pub some-names :
     map named ("CH$LZ" ∷ "CFP$M" ∷ "CFP$R" ∷ "CH$L$" ∷ "CFP$S" ∷ "CFP$U" ∷ "CFP$X" ∷ [])
-    ≡ Value 90 ∷ Value 2147483647 ∷ Value 2 ∷ Absent ∷ Absent ∷ Absent ∷ Absent ∷ []
+    ≡ Some 90 ∷ Some 2147483647 ∷ Some 2 ∷ None ∷ None ∷ None ∷ None ∷ []
 unfolding supplies if
 some-names = refl

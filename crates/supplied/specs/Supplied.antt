@@ -1,14 +1,10 @@
 -- The names that `EQU *` takes, each with its value, and no other [S The house machine].
 -- Assumes nothing.
-use Rattle.std.specs.Prelude.{ℕ, ◌+◌, ◌*◌, List, [], ◌∷◌, get_or}
+use Rattle.std.specs.Prelude.{ℕ, ◌+◌, ◌*◌, List, [], ◌∷◌, get_or, Option, Some, None}
 use Prim.Native.Char.{code}
 use Prim.Native.String.{String, char_at}
 use Rattle.ops.specs.Machine.{cfp_a, cfp_b, cfp_c, cfp_f, cfp_i, cfp_m, cfp_n, cfp_r, ch_bl, ch_d0, ch_d9, ch_la}
 use Rattle.ops.specs.Lookup.{first_with}
-use Rattle.ops.specs.declared.lookup.Lookup.{Lookup}
-use Rattle.ops.specs.declared.lookup.Lookup.TheVariants as found
-use Rattle.supplied.specs.declared.Supplied.{Supplied}
-use Rattle.supplied.specs.declared.Supplied.TheVariants.{Value, Absent}
 
 pub record Supply : Type 0 where
   pub name : String
@@ -80,12 +76,12 @@ by_name s = name_of s.name
 abbrev pub no_supply : Supply
 no_supply = record { name = ""; value = 0 }
 
-abbrev pub value_at : Lookup → Supplied
-value_at (found.Row i) = Value (get_or supplies i no_supply).value
-value_at found.Unknown = Absent
+abbrev pub value_at : Option ℕ → Option ℕ
+value_at (Some i) = Some (get_or supplies i no_supply).value
+value_at None = None
 
 -- the value of a name, or that it is not supplied
-unfoldable pub supplied_of : ℕ → ℕ → ℕ → ℕ → ℕ → Supplied
+unfoldable pub supplied_of : ℕ → ℕ → ℕ → ℕ → ℕ → Option ℕ
 supplied_of a b c d e = value_at (first_with by_name (packed_name a b c d e) 0 supplies)
 
 -- a row of the constant table: name, value

@@ -6,13 +6,6 @@ ghost use Rattle.supplied.specs.Supplied.{packed_name, supplied_of, supplies, su
 
 use ops::constants::Machine;
 
-// What a name is: the value that the machine supplies, or none.
-#[derive(Clone, Copy)]
-pub enum Supplied {
-    Value(u32),
-    Absent,
-}
-
 // How many names.
 const COUNT: usize = 45;
 
@@ -83,18 +76,16 @@ pub fn pack_name(a: u8, b: u8, c: u8, d: u8, e: u8) -> u64
     (upper * RADIX + (d as u64)) * RADIX + (e as u64)
 }
 
-// The supplied value of the name of five characters.
-pub fn supplied_value(a: u8, b: u8, c: u8, d: u8, e: u8) -> Supplied
+// The supplied value of the name of five characters, if it is one of these.
+pub fn supplied_value(a: u8, b: u8, c: u8, d: u8, e: u8) -> Option<u32>
     ensures { result ≡ supplied_of a b c d e }
 {
     let key = pack_name(a, b, c, d, e);
     let table = supplies();
-    let mut i: usize = 0;
-    while i < COUNT {
-        if table[i][0] == key {
-            return Supplied::Value(table[i][1] as u32);
+    for row in &table {
+        if row[0] == key {
+            return Some(row[1] as u32);
         }
-        i += 1;
     }
-    Supplied::Absent
+    None
 }

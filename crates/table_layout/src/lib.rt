@@ -9,16 +9,10 @@ ghost use Rattle.table_layout.specs.Laid.{Limited, Laid};
 
 use ops::constants::Machine;
 
-// Words of the header and of an entry.
-pub const HEADER: usize = bodies::entry::HEADER;
+// Words of the header and of an entry; words of an entry after its operation: the kind and the value of operand one; a word as an index.
+pub use bodies::entry::{ENTRY, HEADER, KIND, VALUE, index};
 
-pub const ENTRY: usize = bodies::entry::ENTRY;
-
-// Words of an entry after its operation: the kind and the value of operand one, the same of operand two, the third operand.
-pub const KIND: usize = bodies::entry::KIND;
-
-pub const VALUE: usize = bodies::entry::VALUE;
-
+// More words of an entry: the kind and the value of operand two, the third operand.
 pub const KIND_TWO: usize = 4;
 
 pub const VALUE_TWO: usize = 6;
@@ -27,13 +21,6 @@ pub const THIRD: usize = 7;
 
 // Bytes of a word, as an index.
 const BYTES: usize = Machine::CFP_B as usize;
-
-// A word as an index.
-pub fn index(x: u32) -> usize
-    ensures { result ≡ x }
-{
-    x as usize
-}
 
 // The sum of two words.
 pub fn sum(x: u32, y: u32) -> usize
@@ -108,8 +95,7 @@ fn fresh_ok(table: &[u32]) -> bool
     let at = HEADER + ENTRY * index(table[0]);
     let words = at + f + index(table[4]);
     let mut low = BYTES * c;
-    let mut i = 0;
-    while i < f {
+    for i in 0..f {
         let a = index(table[at + i]);
         if a < low {
             return false;
@@ -124,7 +110,6 @@ fn fresh_ok(table: &[u32]) -> bool
             return false;
         }
         low = a + 1;
-        i += 1;
     }
     true
 }
@@ -136,12 +121,10 @@ fn counts_ok(table: &[u32]) -> bool
 {
     let at = HEADER + ENTRY * index(table[0]) + index(table[3]);
     let e = index(table[4]);
-    let mut i = 0;
-    while i < e {
+    for i in 0..e {
         if Machine::CFP_M < table[at + i] {
             return false;
         }
-        i += 1;
     }
     true
 }

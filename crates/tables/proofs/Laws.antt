@@ -17,7 +17,7 @@ use Rattle.ops.specs.Class.{Flow, Class, executes, marks, none, is, IFF, goes, f
 use Rattle.ops.specs.Format.{Format}
 use Rattle.ops.specs.Lookup.{first_with, by_number, row_of_number, row_at, no_row}
 use Rattle.ops.specs.Ops.{Row, rows, class_in}
-use Rattle.ops.specs.declared.lookup.Lookup.TheVariants as found
+use Rattle.std.specs.Prelude.{Some, None}
 use Rattle.ops.proofs.First.{row-known, first-sound}
 use Rattle.ops.proofs.Every.{every}
 use Rattle.rules.specs.Check.{among, register_ok, value_ok, operand_ok, third_ok, fields_ok, holds, place_rules, reaches, may_reach, must_reach, is_outside, global_target, layout_ok, table_ok}
@@ -86,22 +86,22 @@ pub record Kept (t : List ℕ) (p : ℕ) (r : Row) : Type 0 where
   pub two : Ok (operand_ok t r.two (field t p 4) (field t p 5) (field t p 6))
   pub three : Ok (third_ok t r.three (field t p 7))
 
-kept_in_lem : (t : List ℕ) (p : ℕ) (rs : List Row) (s j : ℕ) → first_with by_number (field t p 0) s rs ≡ found.Row j → Ok (fields_ok t p rs)
+kept_in_lem : (t : List ℕ) (p : ℕ) (rs : List Row) (s j : ℕ) → first_with by_number (field t p 0) s rs ≡ Some j → Ok (fields_ok t p rs)
     → Kept t p (get_or rs (j - s) no_row)
 unfolding if fields_ok
 kept_in_lem t p [] s j e h = absurd (row-known (sym e))
 kept_in_lem t p (r ∷ rs) s j e h = go (kept_in_lem t p rs (suc s) j) (eqb (field t p 0) r.number) refl
   where
-    go : (first_with by_number (field t p 0) (suc s) rs ≡ found.Row j → Ok (fields_ok t p rs) → Kept t p (get_or rs (j - suc s) no_row)) → (b : Bool)
+    go : (first_with by_number (field t p 0) (suc s) rs ≡ Some j → Ok (fields_ok t p rs) → Kept t p (get_or rs (j - suc s) no_row)) → (b : Bool)
         → eqb (field t p 0) r.number ≡ b → Kept t p (get_or (r ∷ rs) (j - s) no_row)
     go ih true q =
-        let g : found.Row s ≡ found.Row j = rw q at e in
+        let g : Some s ≡ Some j = rw q at e in
         let g' : s ≡ j = cc in
         let z : j - s ≡ 0 = omega arith in
         let k = rw q at h in
         rw z record { one = and_l _ _ k; two = and-2 _ _ _ k; three = and_r _ _ (and_r _ _ k) }
     go ih false q =
-        let g : first_with by_number (field t p 0) (suc s) rs ≡ found.Row j = rw q at e in
+        let g : first_with by_number (field t p 0) (suc s) rs ≡ Some j = rw q at e in
         let z : j - s ≡ suc (j - suc s) = omega (arith, (first-sound by_number no_row (field t p 0) rs (suc s) j g).from) in
         rw z (ih g (rw q at h))
 
@@ -225,13 +225,13 @@ module _ (t : List ℕ) (ok : Ok (table_ok t)) where
   registers-small p h = registers-in t p rows 0 rows-small (fields-kept p h)
 
   -- kinds, registers, values and unused fields are as the row of the operation says
-  pub row_kept : (p i : ℕ) → p < get_or t 0 0 → row_of_number (get_or t (8 + 8 * p) 0) ≡ found.Row i → Kept t p (row_at i)
+  pub row_kept : (p i : ℕ) → p < get_or t 0 0 → row_of_number (get_or t (8 + 8 * p) 0) ≡ Some i → Kept t p (row_at i)
   unfolding row_of_number field
   row_kept p i h e =
       let o : get_or t (8 + 8 * p + 0) 0 ≡ get_or t (8 + 8 * p) 0 = rw (add-zero (8 + 8 * p)) refl in
       let z : i - 0 ≡ i = omega arith in
       subst (λ (x : ℕ). Kept t p (get_or rows x no_row)) z
-      (kept_in_lem t p rows 0 i (subst (λ (x : ℕ). first_with by_number x 0 rows ≡ found.Row i) (sym o) e) (fields-kept p h))
+      (kept_in_lem t p rows 0 i (subst (λ (x : ℕ). first_with by_number x 0 rows ≡ Some i) (sym o) e) (fields-kept p h))
 
   pub iff-known : (p : ℕ) → p < get_or t 0 0 → class_at t p ≡ marks IFF → get_or t (8 + 8 * p + 1) 0 ≡ 1
   unfolding size field

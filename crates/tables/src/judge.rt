@@ -4,41 +4,40 @@ ghost use Rattle.base.specs.Test.{◌or◌};
 ghost use Rattle.rules.specs.Check as Check;
 ghost use Rattle.rules.specs.Table.{class_at};
 ghost use Rattle.table_layout.specs.Below.{below};
-ghost use Rattle.shape_core.specs.Known.{Known};
 ghost use Rattle.tables.specs.Shape.{shape_ok};
 
 use ops::class;
-use shape_core::{exits, reach};
+use shape_core::reach::Places;
 use shape_switch::switch;
 use shapes::{cards, flows};
 use table_layout::index;
 
 // The rules of the place p by its class.
-pub fn class_ok(table: &[u32], classes: &[u32], body: &[u32], n: usize, p: usize) -> bool
-    requires { Known table.now classes.now body.now n × (p < n) }
-    ensures { result ≡ Check.holds (Check.class_rules table.now p (class_at table.now p)) }
+pub fn class_ok(places: &Places<'_>, p: usize) -> bool
+    requires { p < places.now.n }
+    ensures { result ≡ Check.holds (Check.class_rules places.now.table.now p (class_at places.now.table.now p)) }
 {
-    let k = classes[p];
+    let k = places.classes[p];
     match k {
-        class::GOES => flows::goes_ok(table, classes, body, n, p),
-        class::FORKS => flows::forks_ok(table, classes, body, n, p),
-        class::BRN => flows::brn_ok(table, classes, body, n, p),
-        class::JMG => flows::jmg_ok(table, classes, body, n, p),
+        class::GOES => flows::goes_ok(places, p),
+        class::FORKS => flows::forks_ok(places, p),
+        class::BRN => flows::brn_ok(places, p),
+        class::JMG => flows::jmg_ok(places, p),
         class::BRI => true,
-        class::BSW => switch::bsw_ok(table, classes, body, n, p),
-        class::ENT => flows::ent_ok(table, classes, body, n, p),
-        class::RTN => flows::ent_ok(table, classes, body, n, p),
-        class::JSR => exits::jsr_ok(table, classes, body, n, p),
-        class::EXI => flows::exi_ok(table, classes, body, n, p),
-        class::SSS => flows::ent_ok(table, classes, body, n, p),
+        class::BSW => switch::bsw_ok(places, p),
+        class::ENT => flows::ent_ok(places, p),
+        class::RTN => flows::ent_ok(places, p),
+        class::JSR => places.jsr_ok(p),
+        class::EXI => flows::exi_ok(places, p),
+        class::SSS => flows::ent_ok(places, p),
         class::ERB => true,
-        class::CHK => flows::goes_ok(table, classes, body, n, p),
-        class::PPM => cards::ppm_ok(table, classes, body, n, p),
-        class::ERR => cards::err_ok(table, classes, body, n, p),
-        class::IFF => cards::iff_ok(table, classes, body, n, p),
-        class::ESW => cards::esw_ok(table, classes, body, n, p),
-        class::PRC => cards::prc_ok(table, classes, body, n, p),
-        class::ENP => cards::enp_ok(table, classes, body, n, p),
+        class::CHK => flows::goes_ok(places, p),
+        class::PPM => cards::ppm_ok(places, p),
+        class::ERR => cards::err_ok(places, p),
+        class::IFF => cards::iff_ok(places, p),
+        class::ESW => cards::esw_ok(places, p),
+        class::PRC => cards::prc_ok(places, p),
+        class::ENP => cards::enp_ok(places, p),
         _ => false,
     }
 }
@@ -58,38 +57,35 @@ fn starts_section(table: &[u32], p: usize) -> bool
 }
 
 // A section that starts at p starts outside procedures, at a place that can be arrived at.
-pub fn start_ok(table: &[u32], classes: &[u32], body: &[u32], n: usize, p: usize) -> bool
-    requires { Known table.now classes.now body.now n × (p < n) }
-    ensures { result ≡ (not (Check.starts_section table.now p) or Check.is_outside table.now p) }
+pub fn start_ok(places: &Places<'_>, p: usize) -> bool
+    requires { p < places.now.n }
+    ensures { result ≡ (not (Check.starts_section places.now.table.now p) or Check.is_outside places.now.table.now p) }
 {
-    if !starts_section(table, p) {
+    if !starts_section(places.table, p) {
         return true;
     }
-    reach::enters_outside(table, classes, body, n, p)
+    places.enters_outside(p)
 }
 
 // The shape rules of the place p.
-fn shape_ok(table: &[u32], classes: &[u32], body: &[u32], n: usize, p: usize) -> bool
-    requires { Known table.now classes.now body.now n × (p < n) }
-    ensures { result ≡ shape_ok table.now p }
+fn shape_ok(places: &Places<'_>, p: usize) -> bool
+    requires { p < places.now.n }
+    ensures { result ≡ shape_ok places.now.table.now p }
 {
-    if !start_ok(table, classes, body, n, p) {
+    if !start_ok(places, p) {
         return false;
     }
-    class_ok(table, classes, body, n, p)
+    class_ok(places, p)
 }
 
 // The shape rules of all places.
-pub fn shapes_ok(table: &[u32], classes: &[u32], body: &[u32], n: usize) -> bool
-    requires { Known table.now classes.now body.now n }
-    ensures { result ≡ below (shape_ok table.now) n }
+pub fn shapes_ok(places: &Places<'_>) -> bool
+    ensures { result ≡ below (shape_ok places.now.table.now) places.now.n }
 {
-    let mut p: usize = 0;
-    while p < n {
-        if !shape_ok(table, classes, body, n, p) {
+    for p in 0..places.n {
+        if !shape_ok(places, p) {
             return false;
         }
-        p += 1;
     }
     true
 }

@@ -6,6 +6,7 @@ ghost use Rattle.rules.specs.Check.{table_ok};
 
 use bodies::body::bodies;
 use entries::fields::fields_ok;
+use shape_core::reach::Places;
 use table_layout::{index, layout_ok};
 
 pub mod judge;
@@ -25,5 +26,11 @@ pub fn check_table(table: &[u32]) -> bool
     let n = index(table[0]);
     let mut body = [0u32; 1025];
     bodies(table, n, &mut body);
-    judge::shapes_ok(table, &classes, &body, n)
+    let places = Places {
+        table,
+        classes: &classes,
+        body: &body,
+        n,
+    };
+    judge::shapes_ok(&places)
 }

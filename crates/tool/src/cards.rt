@@ -16,32 +16,28 @@ const TEXT: usize = MAX_BYTES + 1;
 // The bytes of the longest table.
 const BYTES: usize = WORD * MAX_TABLE;
 
-// The table of the cards at the front of the room: its length, or 0 where they cannot be read or are refused, which is told.
-pub fn assemble_cards<R: Env + Files>(rt: &R, room: &mut [u32]) -> usize {
+// The table of the cards at the front of the room: its length; nothing where they cannot be read or are refused, which is told.
+pub fn assemble_cards<R: Env + Files>(rt: &R, room: &mut [u32]) -> Option<usize> {
     let mut text = [0u8; TEXT];
-    let n = read_file(rt, FIRST, &mut text);
-    if n == 0 {
-        return 0;
-    }
+    let n = read_file(rt, FIRST, &mut text)?;
     let r = torzimlak_assemble(&text[..n], room);
     if r < UPPER {
-        return r as usize;
+        return Some(r as usize);
     }
     refuse(rt, FIRST, r % UPPER, (r / UPPER) as u32);
-    0
+    None
 }
 
 // The command `assemble CARDS TABLE`.
 pub fn on_assemble<R: Env + Files + Print + RandomSource>(rt: &R) {
     let mut room = [0u32; MAX_TABLE];
-    let n = assemble_cards(rt, &mut room);
-    if n == 0 {
+    let Some(n) = assemble_cards(rt, &mut room) else {
         return;
-    }
+    };
     if MAX_TABLE < n {
         return;
     }
-    write_table(rt, &room[0..n]);
+    write_table(rt, &room[..n]);
 }
 
 // The table as a file.
@@ -59,7 +55,9 @@ fn write_table<R: Env + Files + Print + RandomSource>(rt: &R, table: &[u32]) {
 // The command `check TABLE`.
 pub fn on_check<R: Env + Files + Print>(rt: &R) {
     let mut bytes = [0u8; BYTES + 1];
-    let n = read_file(rt, FIRST, &mut bytes);
+    let Some(n) = read_file(rt, FIRST, &mut bytes) else {
+        return;
+    };
     if is_table(rt, n, BYTES) {
         check_bytes(rt, &bytes[..n]);
     }

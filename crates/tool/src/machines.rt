@@ -15,9 +15,9 @@ use std::random::RandomSource;
 use std::rt::{Env, Files};
 use tool_arguments::sizes::{is_snapshot, tell_snapshot};
 use tool_arguments::{FIRST, SECOND, read_file, refuse, write_file};
-use tool_command::Task;
+use tool_command::Work;
 use tool_fresh::{Supply, fresh_in, fresh_words};
-use tool_report::{has_run, is_stopped, tell_run};
+use tool_report::{Run, has_run, is_stopped, tell_run};
 
 // The build number of every snapshot, the argument of every start, and the answer to the EXP that a woken machine waits in: no exit.
 const BUILD: u32 = 1;
@@ -35,59 +35,55 @@ const SNAPSHOT: usize = WORD * (MOST + Machine::MAX_LINKS + Machine::MAX_FRESH) 
 const NOT_WAITING: u32 = 33;
 
 // The commands `run CARDS`, `freeze CARDS SNAPSHOT` and `wake CARDS SNAPSHOT`, with fresh words behind.
-pub fn on_program<R: Env + Files + Print + RandomSource>(rt: &R, task: Task) {
+pub fn on_program<R: Env + Files + Print + RandomSource>(rt: &R, work: Work) {
     let mut room = [0u32; MAX_TABLE];
-    let n = assemble_cards(rt, &mut room);
-    if n == 0 {
+    let Some(n) = assemble_cards(rt, &mut room) else {
         return;
-    }
+    };
     if MAX_TABLE < n {
         return;
     }
-    on_table(rt, task, &room[0..n]);
+    on_table(rt, work, &room[..n]);
 }
 
 // The argument with the first fresh word.
-fn first_word(task: Task) -> u32 {
-    match task {
-        Task::Run => 3,
-        _ => 4,
+fn first_word(work: Work) -> u32 {
+    match work {
+        Work::Run => 3,
+        Work::Freeze | Work::Wake => 4,
     }
 }
 
-fn on_table<R: Env + Files + Print + RandomSource>(rt: &R, task: Task, table: &[u32]) {
+fn on_table<R: Env + Files + Print + RandomSource>(rt: &R, work: Work, table: &[u32]) {
     let n = fresh_in(table);
     let mut fresh = [0u32; Machine::MAX_FRESH];
-    on_room(rt, task, table, &mut fresh[0..n]);
+    on_room(rt, work, table, &mut fresh[0..n]);
 }
 
 // The table's program, with room for its fresh words.
 fn on_room<R: Env + Files + Print + RandomSource>(
     rt: &R,
-    task: Task,
+    work: Work,
     table: &[u32],
     fresh: &mut [u32],
 ) {
-    let how = fresh_words(rt, first_word(task), fresh);
-    on_fresh(rt, task, table, fresh, how);
+    if let Some(how) = fresh_words(rt, first_word(work), fresh) {
+        on_fresh(rt, work, table, fresh, how);
+    }
 }
 
 // What is done with a table, once its fresh words are there.
 fn on_fresh<R: Env + Files + Print + RandomSource>(
     rt: &R,
-    task: Task,
+    work: Work,
     table: &[u32],
     fresh: &[u32],
     how: Supply,
 ) {
-    if let Supply::Refused = how {
-        return;
-    }
-    match task {
-        Task::Run => run_fresh(rt, table, fresh, how, false),
-        Task::Freeze => run_fresh(rt, table, fresh, how, true),
-        Task::Wake => wake_file(rt, table, fresh, how),
-        _ => {}
+    match work {
+        Work::Run => run_fresh(rt, table, fresh, how, false),
+        Work::Freeze => run_fresh(rt, table, fresh, how, true),
+        Work::Wake => wake_file(rt, table, fresh, how),
     }
 }
 
@@ -117,64 +113,54 @@ fn run_fresh<R: Env + Files + Print + RandomSource>(
     let mut state = [0u32; WORDS];
     let r = begin(table, &mut memory, fresh, &mut state);
     if has_run(rt, FIRST, r) {
-        on_run(rt, table, &memory, &state, fresh.len(), how, frozen, r);
+        let run = Run {
+            supply: how,
+            fresh: fresh.len(),
+            table,
+            memory: &memory,
+            state: &state,
+            answer: r,
+        };
+        on_run(rt, run, frozen);
     }
 }
 
 // A program that was stopped is told of, and not frozen.
-fn on_run<R: Env + Files + Print + RandomSource>(
-    rt: &R,
-    table: &[u32],
-    memory: &[u32],
-    state: &[u32],
-    fresh: usize,
-    how: Supply,
-    frozen: bool,
-    r: u64,
-) {
-    if !frozen {
-        tell_run(rt, how, fresh, table, memory, state, r);
+fn on_run<R: Env + Files + Print + RandomSource>(rt: &R, run: Run, frozen: bool) {
+    if !frozen || is_stopped(run.answer) {
+        tell_run(rt, run);
         return;
     }
-    if is_stopped(r) {
-        tell_run(rt, how, fresh, table, memory, state, r);
-        return;
+    if let Some(n) = write_machine(rt, run) {
+        tell_run(rt, run);
+        tell_snapshot(rt, n);
     }
-    let n = write_machine(rt, table, memory, state);
-    if n == 0 {
-        return;
-    }
-    tell_run(rt, how, fresh, table, memory, state, r);
-    tell_snapshot(rt, n);
 }
 
-// The machine as a file: its length, or 0 where there is none, which is told.
-fn write_machine<R: Env + Files + RandomSource>(
-    rt: &R,
-    table: &[u32],
-    memory: &[u32],
-    state: &[u32],
-) -> usize {
+// The machine as a file: its length; nothing where there is none, which is told.
+fn write_machine<R: Env + Files + RandomSource>(rt: &R, run: Run) -> Option<usize> {
     let mut room = [0u8; SNAPSHOT];
-    let r = torzimlak_write(table, memory, state, BUILD, &mut room);
+    let r = torzimlak_write(run.table, run.memory, run.state, BUILD, &mut room);
     if UPPER <= r {
         refuse(rt, FIRST, 0, (r / UPPER) as u32);
-        return 0;
+        return None;
     }
     let n = r as usize;
     if SNAPSHOT < n {
-        return 0;
+        return None;
     }
-    if write_file(rt, SECOND, &room[0..n]) {
-        return n;
+    if write_file(rt, SECOND, &room[..n]) {
+        return Some(n);
     }
-    0
+    None
 }
 
 // The machine of the snapshot.
 fn wake_file<R: Env + Files + Print>(rt: &R, table: &[u32], fresh: &[u32], how: Supply) {
     let mut bytes = [0u8; SNAPSHOT + 1];
-    let n = read_file(rt, SECOND, &mut bytes);
+    let Some(n) = read_file(rt, SECOND, &mut bytes) else {
+        return;
+    };
     if is_snapshot(rt, n, SNAPSHOT) {
         wake_bytes(rt, table, &bytes[..n], fresh, how);
     }
@@ -188,7 +174,7 @@ fn frozen_words(file: &[u8]) -> usize
         return MOST;
     }
     let m = index(trailer_word(file, MEMORY));
-    if MOST < m { MOST } else { m }
+    m.min(MOST)
 }
 
 fn wake_bytes<R: Env + Print>(rt: &R, table: &[u32], file: &[u8], fresh: &[u32], how: Supply) {
@@ -209,7 +195,15 @@ fn wake_in<R: Env + Print>(
     let mut state = [0u32; WORDS];
     let r = wake(table, file, memory, fresh, &mut state);
     if has_run(rt, SECOND, r) {
-        tell_run(rt, how, fresh.len(), table, memory, &state, r);
+        let run = Run {
+            supply: how,
+            fresh: fresh.len(),
+            table,
+            memory,
+            state: &state,
+            answer: r,
+        };
+        tell_run(rt, run);
     }
 }
 
@@ -220,10 +214,8 @@ fn wake(table: &[u32], file: &[u8], memory: &mut [u32], fresh: &[u32], state: &m
         return only(woken);
     }
     let resumed = torzimlak_resume(table, memory, state, NO_EXIT);
-    if resumed != 0 {
-        if resumed != NOT_WAITING {
-            return only(resumed);
-        }
+    if resumed != 0 && resumed != NOT_WAITING {
+        return only(resumed);
     }
     torzimlak_run(table, memory, state, Machine::MAX_BUDGET)
 }

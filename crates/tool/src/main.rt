@@ -14,12 +14,13 @@ mod machines;
 mod operations;
 
 fn main(rt: HostRuntime) {
-    let task = asked(&rt);
+    let Some(task) = asked(&rt) else {
+        return;
+    };
     match task {
-        Task::Nothing => {}
         Task::Assemble => on_assemble(&rt),
         Task::Check => on_check(&rt),
+        Task::Machine(work) => on_program(&rt, work),
         Task::Operations => on_operations(&rt),
-        _ => on_program(&rt, task),
     }
 }

@@ -2,8 +2,8 @@
 #![tactic(auto)]
 
 use console::lines::line_of;
-use console::page::complain;
-use console::word::{Word, word_in};
+use console::page::Page;
+use console::word::word_in;
 use tool_forms::put_form;
 
 // The refusal of another count of fresh words than the program's.
@@ -19,57 +19,40 @@ fn begins(line: &[u8], number: u32) -> bool {
     if line.len() < DIGITS {
         return false;
     }
-    match word_in(&line[0..DIGITS]) {
-        Word::Is(n) => n == number,
-        Word::Not => false,
-    }
+    word_in(&line[..DIGITS]) == Some(number)
 }
 
 // The line of the text that begins with the number; line 0 where there is none.
 fn row(answers: &[u8], number: u32) -> usize {
-    let mut k: usize = 0;
-    while k < answers.len() {
-        if begins(line_of(answers, k), number) {
-            return k;
-        }
-        k += 1;
-    }
-    0
+    (0..answers.len())
+        .find(|k| begins(line_of(answers, *k), number))
+        .unwrap_or(0)
 }
 
 // The words of a line.
 fn words_in(line: &[u8]) -> &[u8] {
     if line.len() < FRONT {
-        return &line[0..0];
+        return b"";
     }
     &line[FRONT..]
 }
 
 fn put_found(
-    page: &mut [u8],
-    at: usize,
+    page: &mut Page,
     form: &[u8],
     text: &[u8],
     answers: &[u8],
     number: u32,
     numbers: &[u64],
-) -> usize {
+) {
     let line = line_of(answers, row(answers, number));
-    put_form(page, at, form, text, words_in(line), numbers)
+    put_form(page, form, text, words_in(line), numbers);
 }
 
 // A message by its form, with the answer's words as its other text: why something was refused, or how a run ended.
-pub fn put_answer(
-    page: &mut [u8],
-    at: usize,
-    form: &[u8],
-    text: &[u8],
-    number: u32,
-    numbers: &[u64],
-) -> usize {
+pub fn put_answer(page: &mut Page, form: &[u8], text: &[u8], number: u32, numbers: &[u64]) {
     put_found(
         page,
-        at,
         form,
         text,
         b"00 the machine refuses
@@ -102,14 +85,14 @@ pub fn put_answer(
 44 the lent memory is not as long as the frozen one",
         number,
         numbers,
-    )
+    );
 }
 
 // The message on standard error.
 fn warn_answer(form: &[u8], text: &[u8], number: u32, numbers: &[u64]) {
-    let mut page = io::large_buffer();
-    let n = put_answer(&mut page, 0, form, text, number, numbers);
-    complain(&page, n);
+    let mut page = Page::new();
+    put_answer(&mut page, form, text, number, numbers);
+    page.complain();
 }
 
 // A refusal: the file, the line of its cards, if there is one, the refusal's number and why.

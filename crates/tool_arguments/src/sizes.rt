@@ -9,9 +9,6 @@ const SIZE: usize = 0;
 
 // Whether the first file, which was read to n bytes, can be a table, which has most bytes; what cannot be is told.
 pub fn is_table<E: Env>(rt: &E, n: usize, most: usize) -> bool {
-    if n == 0 {
-        return false;
-    }
     if most < n {
         tell(rt, FIRST, b"the file is longer than any table");
         return false;
@@ -33,15 +30,12 @@ pub fn is_snapshot<E: Env>(rt: &E, n: usize, most: usize) -> bool {
         tell(rt, SECOND, b"the file is longer than any snapshot");
         return false;
     }
-    0 < n
+    true
 }
 
 // How many operations a table has.
 fn operations(table: &[u32]) -> u32 {
-    if SIZE < table.len() {
-        return table[SIZE];
-    }
-    0
+    table.get(SIZE).copied().unwrap_or(0)
 }
 
 // The size of the table that the file of argument i holds.

@@ -1,9 +1,10 @@
 // Whole files: read, or written so that a failure leaves the file as it was. What cannot be done is told on standard error.
 #![tactic(auto)]
 
-ghost use Rattle.std.specs.Prelude.{◌≤◌, length};
+ghost use Rattle.std.specs.Prelude.{◌≤◌, length, IfSome};
 ghost use Rattle.io.specs.Counts.{IsPrefixLen};
 
+use console::page::Page;
 use console::stream::{fail, open_read, read_full, text_of};
 use std::fs::{OpenFile, OpenOptions, remove_file, rename, symlink_metadata};
 use std::io::{Error, ErrorKind, Read, Result, Write};
@@ -33,34 +34,35 @@ fn create<R: Files>(rt: &R, path: &[u8]) -> Result<R::File> {
         .open(rt, text_of(path)?)
 }
 
-// Fills the room from the file's front and answers how many bytes it got; 0 where there are none or the file cannot be read, which is told.
+// Fills the room from the file's front and answers how many bytes it got; nothing where there are none or the file cannot be read, which is told.
 // A folder opens like a file, so that only the read behind the last byte tells its error.
-pub fn read_file<R: Files>(rt: &R, path: &[u8], room: &mut [u8]) -> usize
-    ensures { IsPrefixLen result room.new }
+pub fn read_file<R: Files>(rt: &R, path: &[u8], room: &mut [u8]) -> Option<usize>
+    ensures { IfSome result (λ n. IsPrefixLen n room.new) }
 {
     match open_read(rt, path) {
         Ok(file) => read_open(file, path, room),
         Err(error) => {
             fail(path, error);
-            0
+            None
         }
     }
 }
 
 // The same of a file that is open.
-fn read_open<F: Read + Drop>(mut file: F, path: &[u8], room: &mut [u8]) -> usize
-    ensures { IsPrefixLen result room.new }
+fn read_open<F: Read + Drop>(mut file: F, path: &[u8], room: &mut [u8]) -> Option<usize>
+    ensures { IfSome result (λ n. IsPrefixLen n room.new) }
 {
     let n = read_full(&mut file, room);
     let mut behind = [0u8; 1];
     if let Err(error) = file.read(&mut behind) {
         fail(path, error);
-        return 0;
+        return None;
     }
     if n == 0 {
         tell(path, b"the file is empty");
+        return None;
     }
-    n
+    Some(n)
 }
 
 fn is_link<R: Files>(rt: &R, path: &[u8]) -> bool {
@@ -107,14 +109,10 @@ fn is_missing(path: &[u8], error: Error) -> bool {
 fn folder(path: &[u8]) -> usize
     ensures { result ≤ length path.now }
 {
-    let mut i = path.len();
-    while 0 < i {
-        if path[i - 1] == b'/' {
-            return i;
-        }
-        i -= 1;
+    match path.iter().rposition(|b| *b == b'/') {
+        Some(last) => last + 1,
+        None => 0,
     }
-    0
 }
 
 // Four bytes that other runs do not have, as a number.
@@ -125,10 +123,15 @@ fn chance<R: RandomSource>(rt: &R) -> u32 {
 }
 
 // The name of a new file in the folder of the path.
-fn put_beside<R: RandomSource>(rt: &R, name: &mut [u8], path: &[u8]) -> usize {
+fn put_beside<R: RandomSource>(rt: &R, name: &mut Page, path: &[u8]) {
     let k = folder(path);
-    let number = [chance(rt) as u64; 1];
-    put_form(name, 0, b"%.torzimlak-#", &path[0..k], b"", &number)
+    put_form(
+        name,
+        b"%.torzimlak-#",
+        &path[..k],
+        b"",
+        &[chance(rt) as u64],
+    );
 }
 
 // All bytes are written to an open file, and have reached the device; the file is closed.
@@ -183,10 +186,7 @@ pub fn write_file<R: Files + RandomSource>(rt: &R, path: &[u8], bytes: &[u8]) ->
     if !may_replace(rt, path) {
         return false;
     }
-    let mut room = io::large_buffer();
-    let n = put_beside(rt, &mut room, path);
-    if room.len() < n {
-        return false;
-    }
-    write_by(rt, path, &room[0..n], bytes)
+    let mut name = Page::new();
+    put_beside(rt, &mut name, path);
+    write_by(rt, path, name.text(), bytes)
 }

@@ -2,9 +2,8 @@
 #![tactic(auto)]
 
 ghost use Rattle.std.specs.Prelude.{◌<◌, ◌≤◌};
-ghost use Rattle.io.specs.Counts.{IsPrefixLen};
 
-use console::page::put;
+use console::page::Page;
 use io::decimal;
 use tool_forms::put_form;
 
@@ -50,46 +49,47 @@ struct Short {
     order: usize,
 }
 
+// What digits are multiplied by.
+#[derive(Clone, Copy)]
+enum Factor {
+    Two,
+    Five,
+}
+
 // The decimal digits of a number, the last first.
 fn set_digits(digits: &mut [u8; DIGITS], number: u64) {
     let mut n = number;
-    let mut i: usize = 0;
-    while i < WORD_DIGITS {
-        digits[i] = (n % 10) as u8;
+    for digit in digits.iter_mut() {
+        *digit = (n % 10) as u8;
         n /= 10;
-        i += 1;
     }
 }
 
 // A digit by 5 or by 2, and what is carried to it.
-fn carried(digit: u8, five: bool, carry: u32) -> u32
+fn carried(digit: u8, factor: Factor, carry: u32) -> u32
     requires { carry < 1000 }
     ensures { result < 10000 }
 {
-    if five {
-        return digit as u32 * 5 + carry;
+    match factor {
+        Factor::Two => digit as u32 * 2 + carry,
+        Factor::Five => digit as u32 * 5 + carry,
     }
-    digit as u32 * 2 + carry
 }
 
 // The digits of a number by 5 or by 2.
-fn multiply(digits: &mut [u8; DIGITS], five: bool) {
+fn multiply(digits: &mut [u8; DIGITS], factor: Factor) {
     let mut carry: u32 = 0;
-    let mut i: usize = 0;
-    while i < DIGITS {
-        let n = carried(digits[i], five, carry);
-        digits[i] = (n % 10) as u8;
+    for digit in digits.iter_mut() {
+        let n = carried(*digit, factor, carry);
+        *digit = (n % 10) as u8;
         carry = n / 10;
-        i += 1;
     }
 }
 
 // The same n times.
-fn multiply_often(digits: &mut [u8; DIGITS], five: bool, n: u32) {
-    let mut i: u32 = 0;
-    while i < n {
-        multiply(digits, five);
-        i += 1;
+fn multiply_often(digits: &mut [u8; DIGITS], factor: Factor, n: u32) {
+    for _ in 0..n {
+        multiply(digits, factor);
     }
 }
 
@@ -97,26 +97,15 @@ fn multiply_often(digits: &mut [u8; DIGITS], five: bool, n: u32) {
 fn first_at(digits: &[u8; DIGITS]) -> usize
     ensures { result < 768 }
 {
-    let mut i: usize = DIGITS - 1;
-    while 0 < i {
-        if digits[i] != 0 {
-            return i;
-        }
-        i -= 1;
-    }
-    0
+    digits.iter().rposition(|digit| *digit != 0).unwrap_or(0)
 }
 
 // Digit j behind the one at top; 0 past the last.
 fn digit_behind(digits: &[u8; DIGITS], top: usize, j: usize) -> u8 {
-    if top < j {
-        return 0;
+    match top.checked_sub(j) {
+        Some(i) => digits.get(i).copied().unwrap_or(0),
+        None => 0,
     }
-    let i = top - j;
-    if i < DIGITS {
-        return digits[i];
-    }
-    0
 }
 
 // The digits that are shown, cut.
@@ -124,10 +113,8 @@ fn cut(digits: &[u8; DIGITS], top: usize) -> u64
     ensures { result < 1000000000000000 }
 {
     let mut n: u64 = 0;
-    let mut j: usize = 0;
-    while j < SHOWN {
+    for j in 0..SHOWN {
         n = n % LEAST * 10 + (digit_behind(digits, top, j) % 10) as u64;
-        j += 1;
     }
     n
 }
@@ -138,10 +125,7 @@ fn rounded(digits: &[u8; DIGITS], top: usize, order: usize) -> Short
 {
     let n = cut(digits, top);
     if digit_behind(digits, top, SHOWN) < 5 {
-        return Short {
-            digits: n,
-            order: order,
-        };
+        return Short { digits: n, order };
     }
     if n + 1 == MORE {
         return Short {
@@ -151,7 +135,7 @@ fn rounded(digits: &[u8; DIGITS], top: usize, order: usize) -> Short
     }
     Short {
         digits: n + 1,
-        order: order,
+        order,
     }
 }
 
@@ -160,109 +144,92 @@ fn round_real(m: u64, field: u32) -> Short {
     let mut digits = [0u8; DIGITS];
     set_digits(&mut digits, m);
     if OF_WHOLE <= field {
-        multiply_often(&mut digits, false, field - OF_WHOLE);
+        multiply_often(&mut digits, Factor::Two, field - OF_WHOLE);
         let top = first_at(&digits);
         return rounded(&digits, top, UNIT + top);
     }
     let halves = OF_WHOLE - field;
-    multiply_often(&mut digits, true, halves);
+    multiply_often(&mut digits, Factor::Five, halves);
     let top = first_at(&digits);
     rounded(&digits, top, UNIT + top - halves as usize)
 }
 
-// How many digits there are before the zeros behind.
-fn told_digits(text: &[u8]) -> usize
-    ensures { IsPrefixLen result text.now }
-{
-    let mut n = text.len();
-    while 0 < n {
-        if text[n - 1] != b'0' {
-            return n;
-        }
-        n -= 1;
+// Digits without the zeros behind.
+fn told(digits: &[u8]) -> &[u8] {
+    match digits.iter().rposition(|digit| *digit != b'0') {
+        Some(last) => &digits[..last + 1],
+        None => b"",
     }
-    0
 }
 
 // As many zeros, up to 15.
-fn put_zeros(page: &mut [u8], at: usize, n: usize) -> usize {
+fn put_zeros(page: &mut Page, n: usize) {
     let zeros = [b'0'; SHOWN];
-    if SHOWN < n {
-        return put(page, at, &zeros);
-    }
-    put(page, at, &zeros[..n])
+    page.put(&zeros[..n.min(SHOWN)]);
 }
 
 // The first k digits, with zeros where there are fewer; then the rest behind a point, if there is one.
-fn put_pointed(page: &mut [u8], at: usize, digits: &[u8], k: usize) -> usize {
+fn put_pointed(page: &mut Page, digits: &[u8], k: usize) {
     if digits.len() <= k {
-        let behind = put(page, at, digits);
-        return put_zeros(page, behind, k - digits.len());
+        page.put(digits);
+        put_zeros(page, k - digits.len());
+        return;
     }
-    let mut behind = put(page, at, &digits[..k]);
-    behind = put(page, behind, b".");
-    put(page, behind, &digits[k..])
+    page.put(&digits[..k]);
+    page.put(b".");
+    page.put(&digits[k..]);
 }
 
 // Digits, the first of this order: in a plain form where that is short, else with a power of ten.
-fn put_digits(page: &mut [u8], at: usize, digits: &[u8], order: usize) -> usize {
+fn put_digits(page: &mut Page, digits: &[u8], order: usize) {
     if order < SMALL {
-        let behind = put_pointed(page, at, digits, 1);
-        return put_form(page, behind, b"E-#", b"", b"", &[(UNIT - order) as u64]);
+        put_pointed(page, digits, 1);
+        put_form(page, b"E-#", b"", b"", &[(UNIT - order) as u64]);
+    } else if order < UNIT {
+        page.put(b"0.");
+        put_zeros(page, UNIT - order - 1);
+        page.put(digits);
+    } else if order < LARGE {
+        put_pointed(page, digits, order - UNIT + 1);
+    } else {
+        put_pointed(page, digits, 1);
+        put_form(page, b"E+#", b"", b"", &[(order - UNIT) as u64]);
     }
-    if order < UNIT {
-        let mut behind = put(page, at, b"0.");
-        behind = put_zeros(page, behind, UNIT - order - 1);
-        return put(page, behind, digits);
-    }
-    if order < LARGE {
-        return put_pointed(page, at, digits, order - UNIT + 1);
-    }
-    let behind = put_pointed(page, at, digits, 1);
-    put_form(page, behind, b"E+#", b"", b"", &[(order - UNIT) as u64])
-}
-
-// The same without the zeros behind.
-fn put_told(page: &mut [u8], at: usize, digits: &[u8], order: usize) -> usize {
-    let n = told_digits(digits);
-    put_digits(page, at, &digits[..n], order)
 }
 
 // A real above 0.
-fn put_rounded(page: &mut [u8], at: usize, r: Short) -> usize {
+fn put_rounded(page: &mut Page, r: Short) {
     let mut text = [0u8; WORD_DIGITS];
     let n = decimal(r.digits, &mut text);
-    put_told(page, at, &text[..n], r.order)
+    put_digits(page, told(&text[..n]), r.order);
 }
 
 // A real without its sign, by its low word and its high one.
-fn put_size(page: &mut [u8], at: usize, low: u32, high: u32) -> usize {
+fn put_size(page: &mut Page, low: u32, high: u32) {
     let field = high / EXPONENT % EXPONENTS;
     let m = low as u64 + (high % EXPONENT) as u64 * SPAN;
     if field == INFINITE {
-        return put(page, at, b"not finite");
+        page.put(b"not finite");
+    } else if 0 < field {
+        put_rounded(page, round_real(LEADING + m, field));
+    } else if m == 0 {
+        page.put(b"0");
+    } else {
+        put_rounded(page, round_real(m, 1));
     }
-    if 0 < field {
-        return put_rounded(page, at, round_real(LEADING + m, field));
-    }
-    if m == 0 {
-        return put(page, at, b"0");
-    }
-    put_rounded(page, at, round_real(m, 1))
 }
 
 // A real, by its two words: as `19.99`, or as `1.5E+20` from 10^15 on and below 10^-5.
-pub fn put_real(page: &mut [u8], at: usize, low: u32, high: u32) -> usize {
+pub fn put_real(page: &mut Page, low: u32, high: u32) {
     if SIGN <= high {
-        let behind = put(page, at, b"-");
-        return put_size(page, behind, low, high);
+        page.put(b"-");
     }
-    put_size(page, at, low, high)
+    put_size(page, low, high);
 }
 
 // RA and its flag, as a line.
-pub fn put_ra(page: &mut [u8], at: usize, low: u32, high: u32, flag: u32) -> usize {
-    let mut behind = put(page, at, b"RA ");
-    behind = put_real(page, behind, low, high);
-    put_form(page, behind, b", overflow #\n", b"", b"", &[flag as u64])
+pub fn put_ra(page: &mut Page, low: u32, high: u32, flag: u32) {
+    page.put(b"RA ");
+    put_real(page, low, high);
+    put_form(page, b", overflow #\n", b"", b"", &[flag as u64]);
 }

@@ -2,8 +2,7 @@
 // lower; endings are told with what they left.
 #![tactic(auto)]
 
-use console::lines::line_of;
-use console::page::show;
+use console::page::Page;
 use ops::constants::Machine;
 use std::rt::Env;
 use tool_answers::put_answer;
@@ -13,7 +12,7 @@ use tool_fresh::Supply;
 use tool_reals::put_ra;
 use tool_shown::put_text;
 
-// A number of 1 in the upper half of an answer.
+// A number of 1 in the upper half of an answer, which is one number since C gets it so.
 const UPPER: u64 = 4294967296;
 
 // The first ending, the first that stops a program, and the first number behind the endings.
@@ -23,7 +22,7 @@ const STOP: u64 = 22;
 
 const PAST_ENDING: u64 = 30;
 
-// Where the words of a state stand.
+// Where the words of a state stand, as `lent` has them: these are plain words, so that no crate of the machine is loaded here.
 const XL: usize = 0;
 
 const XR: usize = 1;
@@ -66,10 +65,8 @@ const VALUE: usize = 3;
 // Whether an answer is a run's; a refusal is told of the file that argument i names.
 pub fn has_run<E: Env>(rt: &E, i: usize, r: u64) -> bool {
     let number = r / UPPER;
-    if ENDING <= number {
-        if number < PAST_ENDING {
-            return true;
-        }
+    if ENDING <= number && number < PAST_ENDING {
+        return true;
     }
     refuse(rt, i, 0, number as u32);
     false
@@ -80,34 +77,19 @@ pub fn is_stopped(r: u64) -> bool {
     STOP <= r / UPPER
 }
 
-// The line that says whose fresh words they are in a text with one for each supply that is told.
-fn whose(supply: Supply) -> usize {
-    match supply {
-        Supply::System => 1,
-        Supply::Given => 2,
-        _ => 0,
-    }
-}
-
 // How many fresh words there were, and whose.
-fn put_supply(page: &mut [u8], supply: Supply, count: usize) -> usize {
-    let k = whose(supply);
-    if k == 0 {
-        return 0;
-    }
-    put_form(
-        page,
-        0,
-        b"fresh words: #, $\n",
-        b"",
-        line_of(b"\nfrom the system\nas given", k),
-        &[count as u64],
-    )
+fn put_supply(page: &mut Page, supply: Supply, count: usize) {
+    let whose = match supply {
+        Supply::Nothing => return,
+        Supply::System => b"from the system".as_slice(),
+        Supply::Given => b"as given".as_slice(),
+    };
+    put_form(page, b"fresh words: #, $\n", b"", whose, &[count as u64]);
 }
 
-// The line that has a word's sign in a text with none and a minus, and how far from 0 the word is, read as signed.
-fn sign(w: u32) -> usize {
-    if w <= Machine::CFP_M { 0 } else { 1 }
+// A word's sign, a minus or nothing, and how far from 0 the word is, read as signed.
+fn sign(w: u32) -> &'static [u8] {
+    if w <= Machine::CFP_M { b"" } else { b"-" }
 }
 
 fn size(w: u32) -> u64 {
@@ -119,10 +101,7 @@ fn size(w: u32) -> u64 {
 
 // Word i, if there is one.
 fn word_at(words: &[u32], i: usize) -> u32 {
-    if i < words.len() {
-        return words[i];
-    }
-    0
+    words.get(i).copied().unwrap_or(0)
 }
 
 // The same, as a number of a form.
@@ -131,16 +110,15 @@ fn told(words: &[u32], i: usize) -> u64 {
 }
 
 // The ending, the steps, the place, the open calls and the registers.
-fn put_ended(page: &mut [u8], at: usize, number: u32, steps: u64, state: &[u32]) -> usize {
+fn put_ended(page: &mut Page, number: u32, steps: u64, state: &[u32]) {
     let ia = word_at(state, IA);
     put_answer(
         page,
-        at,
         b"ended #: $
 steps #, place #, open calls #
 XL #, XR #, XS #, WA #, WB #, WC #, IA %#, overflow #
 ",
-        line_of(b"\n-", sign(ia)),
+        sign(ia),
         number,
         &[
             number as u64,
@@ -156,18 +134,17 @@ XL #, XR #, XS #, WA #, WB #, WC #, IA %#, overflow #
             size(ia),
             told(state, FLAG),
         ],
-    )
+    );
 }
 
 // RA and its flag.
-fn put_real_part(page: &mut [u8], at: usize, state: &[u32]) -> usize {
+fn put_real_part(page: &mut Page, state: &[u32]) {
     put_ra(
         page,
-        at,
         word_at(state, RA),
         word_at(state, RA_HIGH),
         word_at(state, REAL_FLAG),
-    )
+    );
 }
 
 // The EXP that the JSR at place pc calls.
@@ -183,58 +160,57 @@ fn exits(table: &[u32], number: u32) -> u32 {
 }
 
 // The EXP that the machine waits in.
-fn put_external(page: &mut [u8], at: usize, table: &[u32], number: u32) -> usize {
+fn put_external(page: &mut Page, table: &[u32], number: u32) {
     put_form(
         page,
-        at,
         b"waits in EXP #, exits #\n",
         b"",
         b"",
         &[number as u64, exits(table, number) as u64],
-    )
+    );
 }
 
 // What the machine waits for: the EXP, and the text that XL and WA name.
-fn put_waiting(page: &mut [u8], at: usize, table: &[u32], memory: &[u32], state: &[u32]) -> usize {
+fn put_waiting(page: &mut Page, table: &[u32], memory: &[u32], state: &[u32]) {
     if word_at(state, WAITING) != 1 {
-        return at;
+        return;
     }
-    let behind = put_external(page, at, table, external(table, word_at(state, PLACE)));
+    put_external(page, table, external(table, word_at(state, PLACE)));
     let a = word_at(state, XL);
     let n = word_at(state, WA);
-    put_text(page, behind, memory, a as usize, n as usize)
+    put_text(page, memory, a as usize, n as usize);
+}
+
+// A run's answer, what it left, and how many fresh words there were, and whose.
+#[derive(Clone, Copy)]
+pub struct Run<'a> {
+    pub supply: Supply,
+    pub fresh: usize,
+    pub table: &'a [u32],
+    pub memory: &'a [u32],
+    pub state: &'a [u32],
+    pub answer: u64,
 }
 
 // All of it. How the fresh words came stands first, what the machine waits for last.
-fn put_run(
-    page: &mut [u8],
-    supply: Supply,
-    fresh: usize,
-    table: &[u32],
-    memory: &[u32],
-    state: &[u32],
-    r: u64,
-) -> usize {
-    let mut at = put_supply(page, supply, fresh);
-    at = put_ended(page, at, (r / UPPER) as u32, r % UPPER, state);
-    at = put_real_part(page, at, state);
-    put_waiting(page, at, table, memory, state)
+fn put_run(page: &mut Page, run: Run) {
+    put_supply(page, run.supply, run.fresh);
+    put_ended(
+        page,
+        (run.answer / UPPER) as u32,
+        run.answer % UPPER,
+        run.state,
+    );
+    put_real_part(page, run.state);
+    put_waiting(page, run.table, run.memory, run.state);
 }
 
 // The run's report on standard output, and a line on standard error if the program was stopped.
-pub fn tell_run<R: Env + Print>(
-    rt: &R,
-    supply: Supply,
-    fresh: usize,
-    table: &[u32],
-    memory: &[u32],
-    state: &[u32],
-    r: u64,
-) {
-    let mut page = io::large_buffer();
-    let n = put_run(&mut page, supply, fresh, table, memory, state, r);
-    show(rt, &page, n);
-    if is_stopped(r) {
-        tell_stop(rt, (r / UPPER) as u32);
+pub fn tell_run<R: Env + Print>(rt: &R, run: Run) {
+    let mut page = Page::new();
+    put_run(&mut page, run);
+    page.show(rt);
+    if is_stopped(run.answer) {
+        tell_stop(rt, (run.answer / UPPER) as u32);
     }
 }

@@ -4,6 +4,7 @@
 ghost use Rattle.io.specs.Counts.{IsPrefixLen};
 
 use asm_text::all_printed;
+use console::page::Page;
 use ops::constants::Machine;
 use tool_forms::put_form;
 use words::bytes_of;
@@ -30,30 +31,24 @@ fn take_text(memory: &[u32], a: usize, n: usize, room: &mut [u8]) -> usize
     if room.len() < n {
         return 0;
     }
-    let mut i: usize = 0;
-    while i < n {
+    for i in 0..n {
         let at = a + i;
         let four = bytes_of(memory[at / WORD]);
         room[i] = four[at % WORD];
-        i += 1;
     }
     n
 }
 
 // The text, if it has characters that can all be printed.
-fn put_printed(page: &mut [u8], at: usize, text: &[u8]) -> usize {
-    if text.len() == 0 {
-        return at;
+fn put_printed(page: &mut Page, text: &[u8]) {
+    if !text.is_empty() && all_printed(text) {
+        put_form(page, b"text: $\n", b"", text, &[]);
     }
-    if !all_printed(text) {
-        return at;
-    }
-    put_form(page, at, b"text: $\n", b"", text, &[])
 }
 
 // The n characters from address a on, if they lie in memory and can be printed.
-pub fn put_text(page: &mut [u8], at: usize, memory: &[u32], a: usize, n: usize) -> usize {
+pub fn put_text(page: &mut Page, memory: &[u32], a: usize, n: usize) {
     let mut room = [0u8; BYTES];
     let k = take_text(memory, a, n, &mut room);
-    put_printed(page, at, &room[..k])
+    put_printed(page, &room[..k]);
 }

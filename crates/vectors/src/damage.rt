@@ -1,8 +1,8 @@
 // A file damaged in many ways, and what restore answers to each: a line, and its number. The file lies between other bytes, so that the parts of it, and
 // more than it, are parts of the room.
-ghost use Rattle.std.specs.Prelude.{◌≡◌, ◌-◌};
+ghost use Rattle.std.specs.Prelude.{◌≤◌};
 
-use super::telling::{NONE, say, tell_size, told};
+use super::telling::{Tally, tell_size, told};
 use host::torzimlak_restore;
 use lent::WORDS;
 use ops::constants::Machine;
@@ -27,282 +27,224 @@ pub const LONGEST: usize = 1112;
 
 pub const ROOM: usize = FRONT + LONGEST + FRONT;
 
-// How many damages there are of each sort: cuts, more bytes, other arguments, bytes of the trailer, and odd words at places of the file.
-const CUTS: usize = 2 * 17;
+// Distances from the borders of a file: from its first byte, and from its end.
+const FROM_FIRST: [usize; 7] = [0, 1, 4, 63, 64, 65, 68];
 
-const EXTRAS: usize = 2 * 5;
+const FROM_END: [usize; 10] = [1024, 77, 76, 75, 65, 64, 63, 4, 1, 0];
 
-const OTHERS: usize = 3 * ODD_WORDS;
+// How many bytes of others are tried.
+const MORE: [u32; 5] = [1, 4, 63, 64, 500];
 
-const ODD_WORDS: usize = 15;
+// Words that a file may hold in place of one of its own: counts at their limits and near 2^32, high words of the largest real and of an infinity.
+const ODD_WORDS: [u32; 15] = [
+    0, 1, 2, 3, 255, 257, 8192, 8193, 1073741824, 1073742080, 2146435071, 2146435072, 2147483648,
+    4294967294, 4294967295,
+];
 
+// How many places of the file get odd words.
 const PLACES: usize = 24;
 
-// Where the damages of each sort end, one sort after the other.
-const CUT: usize = CUTS;
-
-const EXTRA: usize = CUT + EXTRAS;
-
-const OTHER: usize = EXTRA + OTHERS;
-
-const BYTE: usize = OTHER + TRAILER;
-
-pub const DAMAGES: usize = BYTE + PLACES * ODD_WORDS;
-
-// The number that restore answers to len bytes of the room from a place on, with a build number, k fresh words and memory of m words.
-fn woken(
-    table: &[u32],
-    room: &[u8],
-    from: usize,
+// A machine's file in its room, with the machine's table and how many fresh words it has.
+#[derive(Clone, Copy)]
+pub struct Frozen<'a> {
+    table: &'a [u32],
+    room: &'a [u8; ROOM],
     len: usize,
-    build: u32,
-    k: usize,
-    m: usize,
-) -> u32 {
-    if room.len() < from {
-        return NONE;
+    fresh: usize,
+    ghost short: { len ≤ 1112 },
+}
+
+impl<'a> Frozen<'a> {
+    // The file of so many bytes, if it is no longer than the longest.
+    pub fn new(
+        table: &'a [u32],
+        room: &'a [u8; ROOM],
+        len: usize,
+        fresh: usize,
+    ) -> Option<Frozen<'a>> {
+        if LONGEST < len {
+            return None;
+        }
+        Some(Frozen {
+            table,
+            room,
+            len,
+            fresh,
+        })
     }
-    if room.len() - from < len {
-        return NONE;
-    }
-    let end = from + len;
-    if MOST < m {
-        return NONE;
-    }
-    if SUPPLY < k {
-        return NONE;
+}
+
+// The number that restore answers to a file with a build number, so many fresh words and memory of so many words, if there can be so many.
+fn woken(table: &[u32], file: &[u8], build: u32, supply: usize, memory: usize) -> Option<u32> {
+    if MOST < memory || SUPPLY < supply {
+        return None;
     }
     let fresh = [1u32; SUPPLY];
-    let mut memory = [7u32; MOST];
+    let mut lent = [7u32; MOST];
     let mut state = [5u32; WORDS];
-    torzimlak_restore(
+    Some(torzimlak_restore(
         table,
-        &room[from..end],
+        file,
         build,
-        &fresh[0..k],
-        &mut memory[0..m],
+        &fresh[..supply],
+        &mut lent[..memory],
         &mut state,
-    )
+    ))
 }
 
-// The same with the file's own build number and length of memory.
-fn part(table: &[u32], room: &[u8; ROOM], from: usize, len: usize, k: usize) -> u32 {
-    woken(table, room, from, len, BUILD, k, MEMORY)
-}
-
-// n less k, or 0.
-pub fn less(n: usize, k: usize) -> usize
-    ensures { result ≡ n - k }
-{
-    if n < k { 0 } else { n - k }
-}
-
-// Distances from the borders of a file: seven from its first byte, then ten from its end.
-fn distance(i: usize) -> usize {
-    match i {
-        0 => 0,
-        1 => 1,
-        2 => 4,
-        3 => 63,
-        4 => 64,
-        5 => 65,
-        6 => 68,
-        7 => 1024,
-        8 => 77,
-        9 => 76,
-        10 => 75,
-        11 => 65,
-        12 => 64,
-        13 => 63,
-        14 => 4,
-        15 => 1,
-        _ => 0,
-    }
-}
-
-// Lengths near the borders of a file of n bytes.
-fn border(n: usize, i: usize) -> usize {
-    let d = distance(i);
-    if i < 7 { d } else { less(n, d) }
+// The number that restore answers to len bytes of a room from a place on, with the file's own build number, fresh words and length of memory.
+fn part(file: Frozen, room: &[u8; ROOM], from: usize, len: usize) -> Option<u32> {
+    let bytes = room.get(from..)?.get(..len)?;
+    woken(file.table, bytes, BUILD, file.fresh, MEMORY)
 }
 
 // The first bytes of the file alone, and the last, to a border.
-fn cut(table: &[u32], room: &[u8; ROOM], n: usize, k: usize, j: usize) -> u32 {
-    let size = border(n, j / 2);
-    if LONGEST < n {
-        return NONE;
+fn first_bytes(file: Frozen, size: usize) -> Option<u32> {
+    if file.len < size {
+        return None;
     }
-    if n < size {
-        return NONE;
-    }
-    let mut from = FRONT;
-    if j % 2 == 0 {
-        say(b"first bytes");
-    } else {
-        say(b"last bytes");
-        from = FRONT + n - size;
-    }
-    told(b"", size as u32, part(table, room, from, size, k))
+    told(
+        b"first bytes",
+        size as u32,
+        part(file, file.room, FRONT, size),
+    )
 }
 
-// How many bytes of others are tried.
-fn more(i: usize) -> u32 {
-    match i {
-        0 => 1,
-        1 => 4,
-        2 => 63,
-        3 => 64,
-        _ => 500,
+fn last_bytes(file: Frozen, size: usize) -> Option<u32> {
+    if file.len < size {
+        return None;
     }
+    let from = FRONT + file.len - size;
+    told(
+        b"last bytes",
+        size as u32,
+        part(file, file.room, from, size),
+    )
+}
+
+// Both, counted.
+fn cut(file: Frozen, size: usize, tally: &mut Tally) {
+    tally.count(first_bytes(file, size));
+    tally.count(last_bytes(file, size));
 }
 
 // Bytes of others in front and behind.
-fn extra(table: &[u32], room: &[u8; ROOM], n: usize, k: usize, j: usize) -> u32 {
-    let w = more(j / 2);
-    let size = w as usize;
-    if LONGEST < n {
-        return NONE;
-    }
-    if FRONT < size {
-        return NONE;
-    }
-    let mut from = FRONT;
-    if j % 2 == 0 {
-        say(b"more in front");
-        from = FRONT - size;
-    } else {
-        say(b"more behind");
-    }
-    told(b"", w, part(table, room, from, n + size, k))
+fn more_in_front(file: Frozen, size: u32) -> Option<u32> {
+    let more = size as usize;
+    let from = FRONT.checked_sub(more)?;
+    told(
+        b"more in front",
+        size,
+        part(file, file.room, from, file.len + more),
+    )
 }
 
-// Words that a file may hold in place of one of its own: counts at their limits and near 2^32, high words of the largest real and of an infinity.
-fn odd_word(i: usize) -> u32 {
-    match i {
-        0 => 0,
-        1 => 1,
-        2 => 2,
-        3 => 3,
-        4 => 255,
-        5 => 257,
-        6 => 8192,
-        7 => 8193,
-        8 => 1073741824,
-        9 => 1073742080,
-        10 => 2146435071,
-        11 => 2146435072,
-        12 => 2147483648,
-        13 => 4294967294,
-        _ => 4294967295,
-    }
+fn more_behind(file: Frozen, size: u32) -> Option<u32> {
+    let more = size as usize;
+    told(
+        b"more behind",
+        size,
+        part(file, file.room, FRONT, file.len + more),
+    )
 }
 
-// Another build number, length of memory and count of fresh words than the file's: an odd word, if it can be one.
-fn other(table: &[u32], room: &[u8; ROOM], n: usize, k: usize, j: usize) -> u32 {
-    let w = odd_word(j / 3);
-    let mut build = BUILD;
-    let mut m = MEMORY;
-    let mut supply = k;
-    match j % 3 {
-        0 => build = w,
-        1 => m = w as usize,
-        _ => supply = w as usize,
-    }
-    if LONGEST < n {
-        return NONE;
-    }
-    if MOST < m {
-        return NONE;
-    }
-    if SUPPLY < supply {
-        return NONE;
-    }
-    tell_other(j % 3);
-    told(b"", w, woken(table, room, FRONT, n, build, supply, m))
+// The file's own bytes.
+fn bytes_in(room: &[u8; ROOM], len: usize) -> Option<&[u8]> {
+    room.get(FRONT..)?.get(..len)
 }
 
-// What is another than the file's.
-fn tell_other(i: usize) {
-    match i {
-        0 => say(b"build"),
-        1 => say(b"memory"),
-        _ => say(b"fresh words"),
-    }
+// The file with another build number, length of memory and count of fresh words than its own: an odd word, if it can be one.
+fn other_build(file: Frozen, w: u32) -> Option<u32> {
+    let bytes = bytes_in(file.room, file.len)?;
+    told(b"build", w, woken(file.table, bytes, w, file.fresh, MEMORY))
+}
+
+fn other_memory(file: Frozen, w: u32) -> Option<u32> {
+    let bytes = bytes_in(file.room, file.len)?;
+    told(
+        b"memory",
+        w,
+        woken(file.table, bytes, BUILD, file.fresh, w as usize),
+    )
+}
+
+fn other_supply(file: Frozen, w: u32) -> Option<u32> {
+    let bytes = bytes_in(file.room, file.len)?;
+    told(
+        b"fresh words",
+        w,
+        woken(file.table, bytes, BUILD, w as usize, MEMORY),
+    )
+}
+
+// The room with other bytes from a place on, if they lie in it.
+fn changed(room: &[u8; ROOM], at: usize, bytes: &[u8]) -> Option<[u8; ROOM]> {
+    let mut changed = *room;
+    changed
+        .get_mut(at..)?
+        .get_mut(..bytes.len())?
+        .copy_from_slice(bytes);
+    Some(changed)
 }
 
 // Byte j of the trailer, one more than it was.
-fn trailer_byte(table: &[u32], room: &[u8; ROOM], n: usize, k: usize, j: usize) -> u32 {
-    if LONGEST < n {
-        return NONE;
-    }
-    if TRAILER <= j {
-        return NONE;
-    }
-    let end = FRONT + n;
-    let at = end - TRAILER + j;
-    let mut changed = *room;
-    let old = changed[at];
-    changed[at] = std::num::wrapping_add_u8(old, 1);
-    told(
-        b"trailer byte",
-        j as u32,
-        part(table, &changed, FRONT, n, k),
-    )
+fn trailer_byte(file: Frozen, j: u32) -> Option<u32> {
+    let room = file.room;
+    let at = (FRONT + file.len).checked_sub(TRAILER)? + j as usize;
+    let byte = room.get(at)?.wrapping_add(1);
+    let room = changed(room, at, &[byte])?;
+    told(b"trailer byte", j, part(file, &room, FRONT, file.len))
 }
 
 // Where a word is changed, counted back from the end: the words of the trailer and the three before it, of the sample its links and its fresh address;
 // then the first two words of memory, of which the second is the sample's fresh word.
 fn word_place(n: usize, i: usize) -> usize {
-    if i < 22 {
-        return 4 * i + 4;
+    match i {
+        0..22 => 4 * i + 4,
+        22 => n,
+        _ => n.saturating_sub(4),
     }
-    if i == 22 { n } else { less(n, 4) }
 }
 
-// The room with a word at byte at.
-fn with_word(room: &[u8; ROOM], at: usize, w: u32) -> [u8; ROOM] {
-    let mut changed = *room;
-    if at < ROOM - 3 {
-        let b = bytes_of(w);
-        changed[at] = b[0];
-        changed[at + 1] = b[1];
-        changed[at + 2] = b[2];
-        changed[at + 3] = b[3];
-    }
-    changed
+// The file with an odd word at a place that is counted back from its end.
+fn other_word(file: Frozen, back: usize, w: u32) -> Option<u32> {
+    let at = (FRONT + file.len).checked_sub(back)?;
+    let room = changed(file.room, at, &bytes_of(w))?;
+    told(b"as", w, part(file, &room, FRONT, file.len))
 }
 
-// A word of the file, in place of which an odd word is tried. The place is told before its first odd word.
-fn other_word(table: &[u32], room: &[u8; ROOM], n: usize, k: usize, j: usize) -> u32 {
-    let back = word_place(n, j / ODD_WORDS);
-    if LONGEST < n {
-        return NONE;
+// A word of the file, in place of which each odd word is tried. The place is told first.
+fn other_words(file: Frozen, back: usize, tally: &mut Tally) {
+    if file.len < back {
+        return;
     }
-    if n < back {
-        return NONE;
+    tell_size(b"word before the end", back as u32);
+    for w in ODD_WORDS {
+        tally.count(other_word(file, back, w));
     }
-    if j % ODD_WORDS == 0 {
-        tell_size(b"word before the end", back as u32);
-    }
-    let w = odd_word(j % ODD_WORDS);
-    let end = FRONT + n;
-    let changed = with_word(room, end - back, w);
-    told(b"as", w, part(table, &changed, FRONT, n, k))
 }
 
-// Damage j of all, sort by sort.
-pub fn damage(table: &[u32], room: &[u8; ROOM], n: usize, k: usize, j: usize) -> u32 {
-    if j < CUT {
-        return cut(table, room, n, k, j);
+// All damages, sort by sort, counted.
+pub fn damage(file: Frozen, tally: &mut Tally) {
+    for size in FROM_FIRST {
+        cut(file, size, tally);
     }
-    if j < EXTRA {
-        return extra(table, room, n, k, j - CUT);
+    for distance in FROM_END {
+        cut(file, file.len.saturating_sub(distance), tally);
     }
-    if j < OTHER {
-        return other(table, room, n, k, j - EXTRA);
+    for size in MORE {
+        tally.count(more_in_front(file, size));
+        tally.count(more_behind(file, size));
     }
-    if j < BYTE {
-        return trailer_byte(table, room, n, k, j - OTHER);
+    for w in ODD_WORDS {
+        tally.count(other_build(file, w));
+        tally.count(other_memory(file, w));
+        tally.count(other_supply(file, w));
     }
-    other_word(table, room, n, k, j - BYTE)
+    for j in 0..TRAILER as u32 {
+        tally.count(trailer_byte(file, j));
+    }
+    for i in 0..PLACES {
+        other_words(file, word_place(file.len, i), tally);
+    }
 }

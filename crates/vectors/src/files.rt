@@ -4,7 +4,7 @@ ghost use Rattle.io.specs.Counts.{IsPrefixLen};
 
 use super::references::tell_reference;
 use super::telling::{end_line, say};
-use assembler::{Assembled, MAX_TABLE, assemble, line, number};
+use assembler::{MAX_TABLE, Refusal, assemble, line, number};
 use console::stream::{arg_count, fail, open_read, read_full, whole_arg};
 use report::{run_cards, tell};
 use std::rt::{Env, Files};
@@ -24,11 +24,11 @@ fn read_file<R: Files>(rt: &R, path: &[u8], room: &mut [u8]) -> usize
 }
 
 // The table's length, or the refusal's line.
-fn detail(a: Assembled) -> u32 {
-    if let Assembled::Done(n) = a {
-        return n;
+fn detail(a: Result<u32, Refusal>) -> u32 {
+    match a {
+        Ok(n) => n,
+        Err(_) => line(a),
     }
-    line(a)
 }
 
 // The line of a deck.
@@ -40,46 +40,61 @@ fn tell_deck(name: &[u8], text: &[u8]) {
     tell(detail(a));
 }
 
-// The line of a file by its folder's first letter.
-fn tell_text(sort: u8, name: &[u8], text: &[u8]) {
-    if sort == b'd' {
-        tell_deck(name, text);
-    } else if sort == b'r' {
-        tell_reference(text);
-    } else {
-        say(name);
-        say(b" ");
-        run_cards(text);
+// The folders, one for each part.
+#[derive(Clone, Copy)]
+pub enum Folder {
+    Examples,
+    Decks,
+    References,
+}
+
+impl Folder {
+    // How a path in the folder begins.
+    fn front(self) -> &'static [u8] {
+        match self {
+            Folder::Examples => b"examples/",
+            Folder::Decks => b"decks/",
+            Folder::References => b"references/",
+        }
+    }
+}
+
+// The line of a file in a folder.
+fn tell_text(folder: Folder, name: &[u8], text: &[u8]) {
+    match folder {
+        Folder::Decks => tell_deck(name, text),
+        Folder::References => tell_reference(text),
+        Folder::Examples => {
+            say(name);
+            say(b" ");
+            run_cards(text);
+        }
     }
     end_line();
 }
 
-// The line of the file at a path, if the folder's name, of `at` bytes, begins with this letter.
-fn tell_file<R: Files>(rt: &R, sort: u8, at: usize, path: &[u8]) {
-    if at < path.len() {
-        if path[0] != sort {
-            return;
-        }
-        let mut text = io::large_buffer();
-        let n = read_file(rt, path, &mut text);
-        tell_text(sort, &path[at..], &text[..n]);
+// The line of the file at a path, if it begins with the folder's first letter and goes on behind the folder's name.
+fn tell_file<R: Files>(rt: &R, folder: Folder, path: &[u8]) {
+    let front = folder.front();
+    if path.first() != front.first() || path.len() <= front.len() {
+        return;
     }
+    let mut text = io::large_buffer();
+    let n = read_file(rt, path, &mut text);
+    tell_text(folder, &path[front.len()..], &text[..n]);
 }
 
-fn on_argument<R: Env + Files>(rt: &R, sort: u8, at: usize, i: usize) {
+fn on_argument<R: Env + Files>(rt: &R, folder: Folder, i: usize) {
     let mut path = io::buffer();
     match whole_arg(rt, i, &mut path) {
-        Ok(n) => tell_file(rt, sort, at, &path[..n]),
+        Ok(n) => tell_file(rt, folder, &path[..n]),
         Err(error) => fail(b"argument", error),
     }
 }
 
-// The lines of a folder's files, in the order of the arguments: its first letter, and how many bytes of a path it takes.
-pub fn each_file<R: Env + Files>(rt: &R, sort: u8, at: usize) {
-    let n = arg_count(rt);
-    let mut i: usize = 1;
-    while i < n {
-        on_argument(rt, sort, at, i);
-        i += 1;
+// The lines of a folder's files, in the order of the arguments.
+pub fn each_file<R: Env + Files>(rt: &R, folder: Folder) {
+    for i in 1..arg_count(rt) {
+        on_argument(rt, folder, i);
     }
 }

@@ -2,7 +2,7 @@
 // and two machines, frozen, woken, and their files damaged. The arguments name the files, each in the folder of its part.
 #![tactic(auto)]
 
-use files::each_file;
+use files::{Folder, each_file};
 use snapshots::tell_snapshots;
 use telling::say;
 
@@ -13,14 +13,13 @@ mod references;
 mod snapshots;
 mod telling;
 
-// A folder goes by its first letter and by how many bytes of a path it takes.
 fn main(rt: HostRuntime) {
     say(b"examples\n");
-    each_file(&rt, b'e', 9);
+    each_file(&rt, Folder::Examples);
     say(b"decks\n");
-    each_file(&rt, b'd', 6);
+    each_file(&rt, Folder::Decks);
     say(b"reference runs\n");
-    each_file(&rt, b'r', 11);
+    each_file(&rt, Folder::References);
     say(b"snapshots\n");
     tell_snapshots();
 }

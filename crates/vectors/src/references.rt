@@ -44,46 +44,40 @@ fn tell_step(table: &[u32], wa: u32, wb: u32, ia: u32) {
     tell_run(r, &state);
 }
 
-// The table of len words at the front of the room: the words of its text, or the step of its operation.
-fn tell_table(room: &[u32], len: usize, text: bool) {
-    if len < 3 {
+// The table: the words of its text, or the step of its operation.
+fn tell_table(table: &[u32], text: bool) {
+    let [.., a, b, c] = table else {
         return;
-    }
-    if room.len() < len {
-        return;
-    }
-    let a = room[len - 3];
-    let b = room[len - 2];
-    let c = room[len - 1];
+    };
     if text {
-        tell(b);
-        tell(c);
+        tell(*b);
+        tell(*c);
     } else {
-        tell_step(&room[0..len], a, b, c);
+        tell_step(table, *a, *b, *c);
     }
 }
 
 // The name on the first card.
 fn tell_name(cards: &[u8]) {
     let end = find_byte(cards, 0, NEWLINE);
-    if NAME <= end {
-        if end <= cards.len() {
-            say(&cards[NAME..end]);
-        }
+    if let Some(name) = cards.get(NAME..end) {
+        say(name);
     }
 }
 
 // The line of a case, without its end.
 pub fn tell_reference(cards: &[u8]) {
-    if cards.len() <= NAME {
+    let Some(first) = cards.get(NAME) else {
         return;
-    }
+    };
     tell_name(cards);
-    let text = cards[NAME] == b'8';
+    let text = *first == b'8';
     let mut room = [0u32; ROOM];
     let r = torzimlak_assemble(cards, &mut room);
     if text {
         tell((r / UPPER) as u32);
     }
-    tell_table(&room, (r % UPPER) as usize, text);
+    if let Some(table) = room.get(..(r % UPPER) as usize) {
+        tell_table(table, text);
+    }
 }

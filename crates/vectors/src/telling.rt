@@ -3,10 +3,35 @@ use io::write_all;
 use report::{STDOUT_FILENO, tell};
 
 // How often each number below 64 is answered.
-pub type Tally = [u32; 64];
+#[derive(Drop)]
+pub struct Tally {
+    counts: [u32; 64],
+}
 
-// No answer: not told, and not counted.
-pub const NONE: u32 = 64;
+impl Tally {
+    pub fn new() -> Tally {
+        Tally { counts: [0; 64] }
+    }
+
+    // One more answer of this number, if there is an answer.
+    pub fn count(&mut self, number: Option<u32>) {
+        let Some(number) = number else {
+            return;
+        };
+        if let Some(n) = self.counts.get_mut(number as usize) {
+            *n = n.wrapping_add(1);
+        }
+    }
+
+    // How often each number was answered, if it was.
+    pub fn tell(&self) {
+        for (i, n) in self.counts.iter().enumerate() {
+            if *n != 0 {
+                tell_line(b"answered", i as u32, *n);
+            }
+        }
+    }
+}
 
 pub fn say(text: &[u8]) {
     write_all(STDOUT_FILENO, text);
@@ -23,57 +48,25 @@ pub fn tell_size(name: &[u8], n: u32) {
     end_line();
 }
 
-// A line with a name, which damage it is, and the number of the answer, which is answered on.
-pub fn told(name: &[u8], i: u32, number: u32) -> u32 {
+// A line with a name and two numbers.
+fn tell_line(name: &[u8], i: u32, n: u32) {
     say(name);
     tell(i);
-    tell(number);
+    tell(n);
     end_line();
+}
+
+// A line with a name, which damage it is, and the number of the answer, which is answered on; none where there is no answer.
+pub fn told(name: &[u8], i: u32, number: Option<u32>) -> Option<u32> {
+    tell_line(name, i, number?);
     number
 }
 
-// One more answer of this number.
-pub fn count(tally: &mut Tally, number: u32) {
-    if number < NONE {
-        let at = number as usize;
-        let n = tally[at];
-        tally[at] = std::num::wrapping_add_u32(n, 1);
-    }
-}
-
-// Word i, if there is one.
-fn tell_at(words: &[u32], i: usize) {
-    if i < words.len() {
-        tell(words[i]);
-    }
-}
-
-// The first n words.
-pub fn tell_words(name: &[u8], words: &[u32], n: usize) {
+// A line with words.
+pub fn tell_words(name: &[u8], words: &[u32]) {
     say(name);
-    let mut i: usize = 0;
-    while i < n {
-        tell_at(words, i);
-        i += 1;
+    for w in words {
+        tell(*w);
     }
     end_line();
-}
-
-// How often number i was answered, if it was.
-fn tell_count(tally: &Tally, i: usize) {
-    if 64 <= i {
-        return;
-    }
-    let n = tally[i];
-    if n != 0 {
-        told(b"answered", i as u32, n);
-    }
-}
-
-pub fn tell_tally(tally: &Tally) {
-    let mut i: usize = 0;
-    while i < 64 {
-        tell_count(tally, i);
-        i += 1;
-    }
 }

@@ -23,7 +23,7 @@ pub shape_of-syms-then-is_closing : goal.shape_of-syms-then-is_closing
 shape_of-syms-then-is_closing c = c.store_symbol-n.ensures.long ∙ c.loop-at.invariant.2
 
 pub returns-then-is_closing : goal.returns-then-is_closing
-returns-then-is_closing c = rw c.gathered.ensures (ends-card c.args.text.now c.loop-at.syms _ c.loop-at.n c.store_symbol-n.result c.loop-at.at c.line_end-e.result c.loop-at.k c.counted-k.result (reader_view c.loop-at.r) (card_view c.card_of-c.result (line_at c.args.text.now c.loop-at.at c.line_end-e.result)) c.loop-at.invariant.0 c.loop-at-test.true c.line_end-e.ensures.0 c.line_end-e.ensures.1 c.card_of-c.ensures c.store_symbol-n.ensures c.counted-k.ensures (sym c.is_closing.ensures ∙ c.if-is_closing.true) c.requires.1)
+returns-then-is_closing c = ends-card c.args.text.now c.loop-at.syms _ c.loop-at.n c.store_symbol-n.result c.loop-at.at c.line_end-e.result c.loop-at.k c.counted-k.result (reader_view c.loop-at.r) (card_view c.card_of-c.result (line_at c.args.text.now c.loop-at.at c.line_end-e.result)) c.loop-at.invariant.0 c.loop-at-test.true c.line_end-e.ensures.0 c.line_end-e.ensures.1 c.card_of-c.ensures c.store_symbol-n.ensures c.counted-k.ensures (sym c.is_closing.ensures ∙ c.if-is_closing.true) c.requires.1
 
 pub past-r-requires : goal.past-r-requires
 past-r-requires c = (spot-counted c.loop-at.at (reader_view c.loop-at.r) (card_view c.card_of-c.result (line_at c.args.text.now c.loop-at.at c.line_end-e.result)) (line_at c.args.text.now c.loop-at.at c.line_end-e.result) c.card_of-c.ensures (omega (arith, c.loop-at-test.true, c.requires.1)) c.loop-at.invariant.1, omega (arith, length-take (c.line_end-e.result - c.loop-at.at) (drop c.loop-at.at c.args.text.now), c.line_end-e.ensures.1, c.requires.1))
@@ -40,4 +40,4 @@ pub shape_of-syms : goal.shape_of-syms
 shape_of-syms c = c.loop-at.invariant.2
 
 pub returns : goal.returns
-returns c = rw c.gathered-2.ensures (all-collected c.args.text.now c.loop-at.syms c.loop-at.n c.loop-at.at c.loop-at.k _ c.loop-at.invariant.0 (none_left (reader_view c.loop-at.r) c.args.text.now c.loop-at.at c.loop-at-test.false) c.requires.1)
+returns c = all-collected c.args.text.now c.loop-at.syms c.loop-at.n c.loop-at.at c.loop-at.k _ c.loop-at.invariant.0 (none_left (reader_view c.loop-at.r) c.args.text.now c.loop-at.at c.loop-at-test.false) c.requires.1

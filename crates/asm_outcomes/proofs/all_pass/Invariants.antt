@@ -1,4 +1,4 @@
-use Prim.Native.Nat.{◌-◌, ◌≤◌}
+use Prim.Native.Nat.{◌≤◌}
 use mathlib.Core.Path.{◌≡◌}
 use lib.ListN.{drop}
 use Rattle.language.specs.Operand.{outcomes}
@@ -7,7 +7,4 @@ use Rattle.asm_outcomes.specs.Tests.{all_by}
 use Rattle.asm_outcomes.proofs.all_pass.Given as goal
 
 abbrev pub invariant-loop-i : goal.invariant-loop-i
-invariant-loop-i l = (all_by l.test (drop l.i (outcomes (symbols_in l.syms l.n) (card_view l.c l.s))) ≡ all_by l.test (outcomes (symbols_in l.syms l.n) (card_view l.c l.s))) × (l.i ≤ l.count)
-
-abbrev pub decreases-loop-i : goal.decreases-loop-i
-decreases-loop-i l = l.count - l.i
+invariant-loop-i l = (all_by l.test (drop l.i (outcomes (symbols_in l.symbols.words.now l.symbols.n) (card_view l.c l.s))) ≡ all_by l.test (outcomes (symbols_in l.symbols.words.now l.symbols.n) (card_view l.c l.s))) × (l.i ≤ l.count)

@@ -16,7 +16,7 @@ returns-then-format-eq-NONE c =
     let f = c in
     let a = f.args in
     sym
-    (no-format (symbols_in a.syms.now a.n) (card_view a.c a.s.now) a.i
+    (no-format (symbols_in a.symbols.now.words.now a.symbols.now.n) (card_view a.c a.s.now) a.i
     (format-none (operation_view a.c.operation) a.i (sym f.format_at-format.ensures ∙ c.if-format-eq-NONE.true)))
 
 pub returns-then-form_count-i : goal.returns-then-form_count-i
@@ -26,7 +26,7 @@ returns-then-form_count-i c =
     let a = f.args in
     c.missing.ensures
     ∙ ap (λ (w : ℕ). missing (format_of w)) f.format_at-format.ensures
-    ∙ no-form (symbols_in a.syms.now a.n) (card_view a.c a.s.now) a.i
+    ∙ no-form (symbols_in a.symbols.now.words.now a.symbols.now.n) (card_view a.c a.s.now) a.i
     (format-some (operation_view a.c.operation) a.i (λ e. c.if-format-eq-NONE.false (f.format_at-format.ensures ∙ e)))
     (omega (arith, c.form_count.ensures, c.if-form_count-i.true))
 
@@ -36,8 +36,8 @@ returns c =
     let f = c in
     let a = f.args in
     c.outcome.ensures
-    ∙ ap (λ (w : ℕ). operand_of (symbols_in a.syms.now a.n) (line_card a.c.spot.line a.s.now) (format_of w) (form_view c.field_form.result))
+    ∙ ap (λ (w : ℕ). operand_of (symbols_in a.symbols.now.words.now a.symbols.now.n) (line_card a.c.spot.line a.s.now) (format_of w) (form_view c.field_form.result))
     f.format_at-format.ensures
-    ∙ with-form (symbols_in a.syms.now a.n) (card_view a.c a.s.now) a.i
+    ∙ with-form (symbols_in a.symbols.now.words.now a.symbols.now.n) (card_view a.c a.s.now) a.i
     (format-some (operation_view a.c.operation) a.i (λ e. c.if-format-eq-NONE.false (f.format_at-format.ensures ∙ e)))
     (omega (arith, c.form_count.ensures, c.if-form_count-i.false)) _ c.field_form.ensures

@@ -1,16 +1,52 @@
--- `asm_outcomes::passes` meets its contract: each outcome by the tests that it passes.
-use mathlib.Core.Path.{refl, ◌∙◌}
-use Rattle.asm_outcomes.proofs.Operands.{awaiting-passes, given-passes, misfit-passes, unnamed-passes}
+-- `asm_outcomes::passes` meets its contract: each test by the outcome that decides it.
+use mathlib.Core.Path.{◌≡◌, refl}
+use mathlib.Core.Bool.{true, false}
+use Rattle.language.specs.Fault.{is_defined, is_fit, is_given}
+use Rattle.asm_types.specs.Views.{outcome_view}
+use Rattle.asm_types.specs.declared.Outcome.{Outcome}
+use Rattle.asm_types.specs.declared.Outcome.TheVariants.{Gives, Awaits, Misfits, Unnamed}
+use Rattle.asm_outcomes.specs.Tests.{test_by}
+use Rattle.asm_outcomes.proofs.passes.Goals.{in-Misfits, in-Unnamed, in_default, in_default-matches}
 use Rattle.asm_outcomes.proofs.passes.Goals as goal
 
+fits : (o : Outcome) → (o ≡ Misfits → ⊥) → true ≡ is_fit (outcome_view o)
+fits (Gives g) h = refl
+fits Awaits h = refl
+fits Misfits h = absurd (h refl)
+fits Unnamed h = refl
+
+defined : (o : Outcome) → (o ≡ Unnamed → ⊥) → true ≡ is_defined (outcome_view o)
+defined (Gives g) h = refl
+defined Awaits h = refl
+defined Misfits h = refl
+defined Unnamed h = absurd (h refl)
+
+pub returns-after-matches : goal.returns-after-matches
+unfolding test_by
+returns-after-matches c =
+    elim c.match-matches.branch [
+      | in-Misfits w ↦ rw (w.matches-is, c.in-Fits.is, w.in-Misfits.is) refl
+      | in_default w ↦ rw (w.matches-is, c.in-Fits.is) (fits c.args.o w.in_default.not-Misfits)
+    ]
+
+pub returns-after-matches-2 : goal.returns-after-matches-2
+unfolding test_by
+returns-after-matches-2 c =
+    elim c.match-matches-2.branch [
+      | in-Unnamed w ↦ rw (w.matches-is, c.in-Defined.is, w.in-Unnamed.is) refl
+      | in_default-matches w ↦ rw (w.matches-is, c.in-Defined.is) (defined c.args.o w.in_default-matches.not-Unnamed)
+    ]
+
 pub returns-in-Gives : goal.returns-in-Gives
-returns-in-Gives c = rw c.in-Gives.is (given-passes c.args.test _ _ _)
+unfolding test_by
+returns-in-Gives c = rw (c.in-Given.is, c.in-Gives.is) refl
 
-pub returns-in-Awaits : goal.returns-in-Awaits
-returns-in-Awaits c = awaiting-passes c.args.test ∙ rw c.in-Awaits.is refl
+not-given : (o : Outcome) → ((g : _) → o ≡ Gives g → ⊥) → false ≡ is_given (outcome_view o)
+not-given (Gives g) h = absurd (h g refl)
+not-given Awaits h = refl
+not-given Misfits h = refl
+not-given Unnamed h = refl
 
-pub returns-in-Misfits : goal.returns-in-Misfits
-returns-in-Misfits c = misfit-passes c.args.test ∙ rw c.in-Misfits.is refl
-
-pub returns-in-Unnamed : goal.returns-in-Unnamed
-returns-in-Unnamed c = unnamed-passes c.args.test ∙ rw c.in-Unnamed.is refl
+pub returns-in_default-matches-2 : goal.returns-in_default-matches-2
+unfolding test_by
+returns-in_default-matches-2 c = rw c.in-Given.is (not-given c.args.o c.in_default-matches-2.not-Gives)

@@ -11,16 +11,16 @@ use Rattle.asm_reals.proofs.Laws.{written-bounds, no_words, words_are}
 use Rattle.asm_reals.proofs.words_of.Goals as goal
 
 pub returns-in_default : goal.returns-in_default
-returns-in_default c = no_words _ (sym (ap decimal_view c.in_default.is) ∙ c.decimal_of-d.ensures)
+returns-in_default c = no_words _ (sym (ap decimal_view c.in_default.is) ∙ c.decimal_of.ensures)
 
 pub value-bits-requires : goal.value-bits-requires
-value-bits-requires c = written-bounds c.args.s.now (sym (ap decimal_view c.in-Written.is) ∙ c.decimal_of-d.ensures)
+value-bits-requires c = written-bounds c.args.s.now (sym (ap decimal_view c.in-Some.is) ∙ c.decimal_of.ensures)
 
 pub float_to_bits-bits : goal.float_to_bits-bits
-float_to_bits-bits c = let q = written-bounds c.args.s.now (sym (ap decimal_view c.in-Written.is) ∙ c.decimal_of-d.ensures) in subst (λ (x : Float). T (not (is_nan x))) (sym c.value-bits.ensures) (constant-no-nan _ _ _ q.0 q.1)
+float_to_bits-bits c = let q = written-bounds c.args.s.now (sym (ap decimal_view c.in-Some.is) ∙ c.decimal_of.ensures) in subst (λ (x : Float). T (not (is_nan x))) (sym c.value-bits.ensures) (constant-no-nan _ _ _ q.0 q.1)
 
 pub overflow_cast-high : goal.overflow_cast-high
 overflow_cast-high c = omega (arith, bits_below c.value-bits.result (subst (λ (x : Float). T (fits binary64 x)) (sym c.value-bits.ensures) (constant-fits _ _ _)))
 
 pub returns : goal.returns
-returns c = words_are _ (sym (ap decimal_view c.in-Written.is) ∙ c.decimal_of-d.ensures) c.value-bits.ensures
+returns c = words_are _ (sym (ap decimal_view c.in-Some.is) ∙ c.decimal_of.ensures) c.value-bits.ensures

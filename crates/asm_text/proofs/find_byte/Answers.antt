@@ -1,6 +1,7 @@
 -- `asm_text::find_byte` meets its contract. Invariant: the scan from place i ends where the scan from `from` does.
 use mathlib.Core.Path.{refl, ap, ◌∙◌}
 use mathlib.Core.Bool.{not}
+use native.Mathlib.Omega.{arith}
 use borrow.Author.Tests.{eq-eqb, ne_eqb}
 use Rattle.language.specs.Form.{before_byte}
 use Rattle.language.proofs.Laws.{span_more, span-out, span-stop}
@@ -17,4 +18,4 @@ pub loop-i-preserved : goal.loop-i-preserved
 loop-i-preserved c = (span_more (before_byte _) _ _ c.loop-i-test.true (ap not (ne_eqb _ _ c.if-s-i.false)) ∙ c.loop-i.invariant.0, search rules)
 
 pub returns : goal.returns
-returns c = (span-out (before_byte _) _ _ c.loop-i-test.false ∙ c.loop-i.invariant.0, search rules)
+returns c = (omega (arith, span-out (before_byte c.args.d) c.args.s.now _ c.loop-i-test.false, c.loop-i.invariant.0), search rules)

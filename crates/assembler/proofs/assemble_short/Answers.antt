@@ -10,7 +10,7 @@ pub collect-c-requires : goal.collect-c-requires
 collect-c-requires c = (c.rows-list.ensures, c.requires, search rules)
 
 pub fill-long-requires : goal.fill-long-requires
-fill-long-requires c = (c.rows-list.ensures, c.collect-c.ensures.symbolic, c.requires, search rules, c.collect-c.ensures.header_is)
+fill-long-requires c = (c.rows-list.ensures, c.requires, search rules, c.collect-c.ensures.header_is)
 
 pub slice_bounds-finish-end-2 : goal.slice_bounds-finish-end-2
 slice_bounds-finish-end-2 c =

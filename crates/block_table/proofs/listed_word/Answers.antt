@@ -12,7 +12,7 @@ pub overflow_add-result : goal.overflow_add-result
 overflow_add-result c =
     let a = c.args in
     let k = c.requires in
-    let b = bounds a.ones.now a.twos.now a.threes.now a.fours.now k a.w in
+    let b = bounds a.lists.now.ones a.lists.now.twos a.lists.now.threes a.lists.now.fours k a.w in
     omega (arith, b.0, b.1, b.2, b.3, c.listed.ensures, c.listed-2.ensures)
 
 pub listed-requires-3 : goal.listed-requires-3
@@ -22,7 +22,7 @@ pub overflow_add-result-2 : goal.overflow_add-result-2
 overflow_add-result-2 c =
     let a = c.args in
     let k = c.requires in
-    let b = bounds a.ones.now a.twos.now a.threes.now a.fours.now k a.w in
+    let b = bounds a.lists.now.ones a.lists.now.twos a.lists.now.threes a.lists.now.fours k a.w in
     omega (arith, b.0, b.1, b.2, b.3, c.listed.ensures, c.listed-2.ensures, c.listed-3.ensures)
 
 pub listed-requires-4 : goal.listed-requires-4
@@ -32,10 +32,10 @@ pub overflow_add-result-3 : goal.overflow_add-result-3
 overflow_add-result-3 c =
     let a = c.args in
     let k = c.requires in
-    let b = bounds a.ones.now a.twos.now a.threes.now a.fours.now k a.w in
+    let b = bounds a.lists.now.ones a.lists.now.twos a.lists.now.threes a.lists.now.fours k a.w in
     omega (arith, b.0, b.1, b.2, b.3, c.listed.ensures, c.listed-2.ensures, c.listed-3.ensures, c.listed-4.ensures)
 
 pub returns : goal.returns
 returns c =
     let a = c.args in
-    rw (c.listed.ensures, c.listed-2.ensures, c.listed-3.ensures, c.listed-4.ensures) (lists-sum a.ones.now a.twos.now a.threes.now a.fours.now c.requires a.w)
+    rw (c.listed.ensures, c.listed-2.ensures, c.listed-3.ensures, c.listed-4.ensures) (lists-sum a.lists.now.ones a.lists.now.twos a.lists.now.threes a.lists.now.fours c.requires a.w)

@@ -1,49 +1,23 @@
--- The invariant: what is translated from here is what is translated from the start, and what is left lies in memory. The measure: the words left.
+-- The invariant: what is translated from here is what is translated from the start.
 use Prim.Native.Nat.{◌+◌}
 use mathlib.Core.Path.{refl, sym, ◌∙◌}
 use native.Mathlib.Omega.{arith}
 use lib.ListN.{length-set}
 use Rattle.rules.specs.Operand.{char_in}
-use Rattle.block_table.proofs.Table.{translated-none, table_step}
+use Rattle.block_table.proofs.Table.{same-counts, translated-none, table_step}
 use Rattle.block_table.proofs.translate_short.Goals as goal
 
-pub loop-left-init : goal.loop-left-init
-loop-left-init c = (refl, omega arith, refl, c.requires.3)
-
-pub offset_bounds-m-f : goal.offset_bounds-m-f
-offset_bounds-m-f c = omega arith
-
-pub bounds-m-f : goal.bounds-m-f
-bounds-m-f c = omega arith
+pub loop-f-init : goal.loop-f-init
+loop-f-init c = (same-counts c.args.to c.args.m.now (omega arith) refl, refl)
 
 pub mapped_word-requires : goal.mapped_word-requires
-mapped_word-requires c = (rw c.loop-left.invariant.2 c.requires.1, rw c.loop-left.invariant.2 c.requires.2)
+mapped_word-requires c = (rw c.loop-f.invariant.1 c.requires.1, rw c.loop-f.invariant.1 c.requires.2)
 
-pub offset_bounds-m-f-in-loop-left : goal.offset_bounds-m-f-in-loop-left
-offset_bounds-m-f-in-loop-left c = omega arith
-
-pub bounds-m-f-in-loop-left : goal.bounds-m-f-in-loop-left
-bounds-m-f-in-loop-left c = omega arith
-
-pub overflow_add-f : goal.overflow_add-f
-overflow_add-f c = omega arith
-
-pub overflow_sub-left : goal.overflow_sub-left
-overflow_sub-left c = omega arith
-
-pub loop-left-smaller : goal.loop-left-smaller
-loop-left-smaller c = omega arith
-
-pub loop-left-preserved : goal.loop-left-preserved
-loop-left-preserved c =
-    let i = c.loop-left.invariant in
-    let m = c.loop-left.m in
-    let f = c.loop-left.f in
-    let to = c.args.to in
-    (i.0 ∙ table_step c.loop-left.left f to m (λ b. char_in m (to + b)) c.loop-left-test.true i.3 (λ b h. refl) (omega arith) (c.slice_known-in-loop-left-1.given f).fits ∙ rw c.mapped_word.ensures, omega arith, simp length-set i.2, λ z e. omega (arith, i.3 (omega arith) (omega (arith, e))))
-
-pub shape_of-m : goal.shape_of-m
-shape_of-m c = c.loop-left.invariant.2
+pub loop-f-preserved : goal.loop-f-preserved
+loop-f-preserved c =
+    let l = c.loop-f in
+    let a = c.args in
+    (l.invariant.0 ∙ table_step (a.from + a.n) l.f a.to l.m (λ b. char_in l.m (a.to + b)) (omega arith) (λ z e. omega (arith, c.requires.3 (omega (arith, z)) (omega (arith, e)))) (λ b h. refl) (omega arith) (c.slice_known-in-loop-f-1.given l.f).fits ∙ rw c.mapped_word.ensures, simp length-set l.invariant.1)
 
 pub returns : goal.returns
-returns c = sym (translated-none _ _ _ _ (omega arith)) ∙ sym c.loop-left.invariant.0
+returns c = sym (translated-none _ _ _ _ (omega arith)) ∙ sym c.loop-f.invariant.0

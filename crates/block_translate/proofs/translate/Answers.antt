@@ -8,4 +8,4 @@ pub translate_apart-requires : goal.translate_apart-requires
 translate_apart-requires c = (omega arith, omega arith, omega arith, c.clear.ensures c.if-clear.true)
 
 pub returns : goal.returns
-returns c = c.translate_apart-3.ensures ∙ sym (in_parts c.args.n c.least-below.result c.least-met.result c.args.from _ c.args.to c.args.m.now _ _ (omega arith) refl c.translate_apart-2.ensures c.translate_chars.ensures)
+returns c = c.translate_apart-3.ensures ∙ sym (in_parts c.args.n c.min-below.result c.min-met.result c.args.from _ c.args.to c.args.m.now _ _ (omega arith) refl c.translate_apart-2.ensures c.translate_chars.ensures)

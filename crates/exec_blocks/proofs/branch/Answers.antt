@@ -10,9 +10,6 @@ returns-then-k-eq1 c = c.to_first.ensures ∙ rw c.if-k-eq1.true
 pub returns-then-k-eq2 : goal.returns-then-k-eq2
 returns-then-k-eq2 c = c.to_second.ensures ∙ rw c.if-k-eq2.true
 
-pub overflow_add-result : goal.overflow_add-result
-overflow_add-result c = omega arith
-
 pub returns : goal.returns
 unfolding way_of if
 returns c = let k : c.args.k ≡ 0 = omega (arith, c.if-k-eq1.false, c.if-k-eq2.false, c.requires.4) in rw k

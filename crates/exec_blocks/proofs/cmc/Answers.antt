@@ -8,18 +8,6 @@ use Rattle.exec_core.proofs.Laws.{place-kind}
 use Rattle.exec_blocks.proofs.Laws.{both-within}
 use Rattle.exec_blocks.proofs.cmc.Goals as goal
 
-pub bounds-z-1 : goal.bounds-z-1
-bounds-z-1 c = omega arith
-
-pub bounds-z-2 : goal.bounds-z-2
-bounds-z-2 c = omega arith
-
-pub bounds-z-4 : goal.bounds-z-4
-bounds-z-4 c = omega arith
-
-pub leave-requires : goal.leave-requires
-leave-requires c = tt
-
 pub overflow_add-result : goal.overflow_add-result
 overflow_add-result c = omega (arith, c.requires.0.near)
 
@@ -31,9 +19,6 @@ pub order_chars-k-requires : goal.order_chars-k-requires
 order_chars-k-requires c =
     let q = both-within _ _ _ _ _ (sym c.both_fit.ensures ∙ c.if-both_fit.true) in
     (q.0, q.1, c.requires.1)
-
-pub leave-requires-then-both_fit : goal.leave-requires-then-both_fit
-leave-requires-then-both_fit c = tt
 
 pub branch-t-requires : goal.branch-t-requires
 branch-t-requires c = (c.requires.0.inside, c.requires.0.near, place-kind c.requires.0.one, place-kind c.requires.0.two, c.order_chars-k.ensures.1)

@@ -6,24 +6,12 @@ use Rattle.rules.specs.Exec.{mvc_of, ranged}
 use Rattle.exec_blocks.proofs.Laws.{both-within}
 use Rattle.exec_blocks.proofs.mvc.Goals as goal
 
-pub bounds-z-1 : goal.bounds-z-1
-bounds-z-1 c = omega arith
-
-pub bounds-z-2 : goal.bounds-z-2
-bounds-z-2 c = omega arith
-
-pub bounds-z-4 : goal.bounds-z-4
-bounds-z-4 c = omega arith
-
 pub overflow_add-result : goal.overflow_add-result
 overflow_add-result c = omega (arith, c.requires.0.near)
 
 pub returns-then-n-eq0 : goal.returns-then-n-eq0
 unfolding mvc_of if
 returns-then-n-eq0 c = rw (eq-eqb _ _ c.if-n-eq0.true)
-
-pub index-requires : goal.index-requires
-index-requires c = tt
 
 pub returns-then-index-c : goal.returns-then-index-c
 unfolding mvc_of ranged if
@@ -39,9 +27,6 @@ overflow_add-a c = omega (arith, (both-within _ _ _ _ _ (sym c.both_fit.ensures 
 
 pub overflow_add-e : goal.overflow_add-e
 overflow_add-e c = omega (arith, (both-within _ _ _ _ _ (sym c.both_fit.ensures ∙ c.if-both_fit.true)).1, c.requires.1)
-
-pub leave-requires : goal.leave-requires
-leave-requires c = tt
 
 pub overflow_add-result-then-both_fit : goal.overflow_add-result-then-both_fit
 overflow_add-result-then-both_fit c = omega (arith, c.requires.0.near)

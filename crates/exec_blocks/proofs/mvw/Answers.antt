@@ -7,15 +7,6 @@ use Rattle.rules.specs.Exec.{mvw_of, ranged}
 use Rattle.exec_blocks.proofs.Laws.{words-within}
 use Rattle.exec_blocks.proofs.mvw.Goals as goal
 
-pub bounds-z-1 : goal.bounds-z-1
-bounds-z-1 c = omega arith
-
-pub bounds-z-2 : goal.bounds-z-2
-bounds-z-2 c = omega arith
-
-pub bounds-z-4 : goal.bounds-z-4
-bounds-z-4 c = omega arith
-
 pub returns-then-n-ne0 : goal.returns-then-n-ne0
 unfolding mvw_of if
 returns-then-n-ne0 c = rw (ne_eqb _ _ c.if-n-ne0.true)
@@ -27,21 +18,9 @@ pub returns-then-n-eq0 : goal.returns-then-n-eq0
 unfolding mvw_of if
 returns-then-n-eq0 c = rw (eq-eqb _ _ c.if-n-ne0.false, eq-eqb _ _ c.if-n-eq0.true)
 
-pub index-requires : goal.index-requires
-index-requires c = tt
-
 pub returns-then-index-c : goal.returns-then-index-c
 unfolding mvw_of ranged words_fit if
 returns-then-index-c c = rw (eq-eqb _ _ c.if-n-ne0.false, ne_eqb _ _ c.if-n-eq0.false, ← c.words_fit.ensures, c.if-words_fit.true, lt-ltb _ _ (rw c.index.ensures at c.if-index-c.true))
-
-pub index-requires-then-words_fit : goal.index-requires-then-words_fit
-index-requires-then-words_fit c = tt
-
-pub index-requires-then-words_fit-2 : goal.index-requires-then-words_fit-2
-index-requires-then-words_fit-2 c = tt
-
-pub index-requires-then-words_fit-3 : goal.index-requires-then-words_fit-3
-index-requires-then-words_fit-3 c = tt
 
 pub move_words-requires : goal.move_words-requires
 move_words-requires c =
@@ -53,9 +32,6 @@ overflow_add-a c = omega (arith, (words-within _ _ _ _ (sym c.words_fit.ensures 
 
 pub overflow_add-e : goal.overflow_add-e
 overflow_add-e c = omega (arith, (words-within _ _ _ _ (sym c.words_fit.ensures ∙ c.if-words_fit.true)).1, c.requires.1)
-
-pub leave-requires : goal.leave-requires
-leave-requires c = tt
 
 pub overflow_add-result-then-words_fit : goal.overflow_add-result-then-words_fit
 overflow_add-result-then-words_fit c = omega (arith, c.requires.0.near)

@@ -6,27 +6,12 @@ use Rattle.rules.specs.Exec.{trc_of, ranged}
 use Rattle.exec_blocks.proofs.Laws.{both-within}
 use Rattle.exec_blocks.proofs.trc.Goals as goal
 
-pub bounds-z-1 : goal.bounds-z-1
-bounds-z-1 c = omega arith
-
-pub bounds-z-2 : goal.bounds-z-2
-bounds-z-2 c = omega arith
-
-pub bounds-z-4 : goal.bounds-z-4
-bounds-z-4 c = omega arith
-
-pub leave-requires : goal.leave-requires
-leave-requires c = tt
-
 pub overflow_add-result : goal.overflow_add-result
 overflow_add-result c = omega (arith, c.requires.0.near)
 
 pub returns-then-n-eq0 : goal.returns-then-n-eq0
 unfolding trc_of if
 returns-then-n-eq0 c = rw (eq-eqb _ _ c.if-n-eq0.true, c.leave.ensures)
-
-pub index-requires : goal.index-requires
-index-requires c = tt
 
 pub returns-then-index-c : goal.returns-then-index-c
 unfolding trc_of ranged if
@@ -36,9 +21,6 @@ pub translate-requires : goal.translate-requires
 translate-requires c =
     let q = both-within _ _ _ _ _ (sym c.both_fit.ensures ∙ c.if-both_fit.true) in
     (q.0, q.1, c.requires.1)
-
-pub leave-requires-then-both_fit : goal.leave-requires-then-both_fit
-leave-requires-then-both_fit c = tt
 
 pub overflow_add-result-then-both_fit : goal.overflow_add-result-then-both_fit
 overflow_add-result-then-both_fit c = omega (arith, c.requires.0.near)

@@ -2,16 +2,16 @@ use Rattle.rules.specs.Operand.{given}
 use Rattle.rules.specs.Exec.{tells}
 use Rattle.exec_branches.proofs.taken.Goals as goal
 
-pub fetch-f-requires : goal.fetch-f-requires
-fetch-f-requires c = (rw c.operand-one.ensures c.requires.one, c.requires.zero)
+pub fetch-requires : goal.fetch-requires
+fetch-requires c = (rw c.operand-one.ensures c.requires.one, c.requires.zero)
 
-pub returns-in_default : goal.returns-in_default
+pub returns-in_err-v : goal.returns-in_err-v
 unfolding tells given
-returns-in_default c = λ way f. rw (← c.operand-one.ensures, ← c.fetch-f.ensures, c.in_default.is)
+returns-in_err-v c = λ way f. rw (c.from_residual.ensures, ← c.operand-one.ensures, ← c.in_err-v.ensures)
 
 pub act-requires : goal.act-requires
 act-requires c = rw c.operand-one.ensures c.requires.one
 
 pub returns : goal.returns
 unfolding tells given
-returns c = λ way f. rw (← c.operand-one.ensures, ← c.fetch-f.ensures, c.in-Got.is, c.act.ensures)
+returns c = λ way f. rw (← c.operand-one.ensures, ← c.fetch.ensures, c.in_ok-v.was, c.act.ensures)

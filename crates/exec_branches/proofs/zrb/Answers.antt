@@ -5,10 +5,10 @@ use lib.Dec.{eqb}
 use Rattle.exec_branches.proofs.zrb.Goals as goal
 
 pub returns-in_default : goal.returns-in_default
-returns-in_default c = rw c.in_default.is at (c.taken-f.ensures (way_of c.args.t.now c.args.b) (λ v. fork 2 (eqb v 0)))
+returns-in_default c = rw c.in_default.is at (c.taken.ensures (way_of c.args.t.now c.args.b) (λ v. fork 2 (eqb v 0)))
 
 pub second_if-requires : goal.second_if-requires
 second_if-requires c = (c.requires.inside, c.requires.near, place-kind c.requires.two)
 
 pub returns : goal.returns
-returns c = rw c.second_if.ensures (rw c.in-Got.is at (c.taken-f.ensures (way_of c.args.t.now c.args.b) (λ v. fork 2 (eqb v 0))))
+returns c = rw c.second_if.ensures (rw c.in-Some.is at (c.taken.ensures (way_of c.args.t.now c.args.b) (λ v. fork 2 (eqb v 0))))

@@ -10,20 +10,20 @@ use Rattle.exec_calls.proofs.Called.{sss-above, sss-within}
 use Rattle.exec_calls.proofs.Takes.{sss-takes}
 use Rattle.exec_calls.proofs.sss.Goals as goal
 
-pub fetch-f-requires : goal.fetch-f-requires
-fetch-f-requires c = (rw c.operand-one.ensures (entry-at c.requires.0 readable readable going c.args.z.now c.requires.1 sss-takes).one, c.requires.1)
+pub fetch-requires : goal.fetch-requires
+fetch-requires c = (rw c.operand-one.ensures (entry-at c.requires.0 readable readable going c.args.z.now c.requires.1 sss-takes).one, c.requires.1)
 
 pub returns-in_default : goal.returns-in_default
 unfolding tells given
-returns-in_default c = (λ k. rw (← c.operand-one.ensures, ← c.fetch-f.ensures, c.in_default.is), refl)
+returns-in_default c = (λ k. rw (← c.operand-one.ensures, ← c.fetch.ensures, c.in_default.is), refl)
 
 pub returns-then-links-v : goal.returns-then-links-v
 unfolding tells given if
-returns-then-links-v c = (λ k. rw (← c.operand-one.ensures, ← c.fetch-f.ensures, c.in-Got.is, sss-above c.requires.2 _ c.if-links-v.true), refl)
+returns-then-links-v c = (λ k. rw (← c.operand-one.ensures, ← c.fetch.ensures, c.in-Some.is, sss-above c.requires.2 _ c.if-links-v.true), refl)
 
 pub act-requires : goal.act-requires
 act-requires c = rw c.operand-one.ensures (entry-at c.requires.0 readable readable going c.args.z.now c.requires.1 sss-takes).one
 
 pub returns : goal.returns
 unfolding tells given if
-returns c = (λ k. rw (← c.operand-one.ensures, ← c.fetch-f.ensures, c.in-Got.is, ← c.act.ensures, sss-within c.requires.2 _ c.if-links-v.false, links-cut _ c.requires.2 _ c.if-links-v.false, on-is _ _ c.requires.0.starts), length-set c.args.links.now 256 c.in-Got.v)
+returns c = (λ k. rw (← c.operand-one.ensures, ← c.fetch.ensures, c.in-Some.is, ← c.act.ensures, sss-within c.requires.2 _ c.if-links-v.false, links-cut _ c.requires.2 _ c.if-links-v.false, on-is _ _ c.requires.0.starts), length-set c.args.links.now 256 c.in-Some.v)

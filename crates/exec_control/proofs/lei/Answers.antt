@@ -11,32 +11,35 @@ offset_bounds-z-x c = omega (arith, c.index-x.ensures, register-small c.args.t.n
 pub bounds-z-x : goal.bounds-z-x
 bounds-z-x c = omega (arith, c.index-x.ensures, register-small c.args.t.now c.args.b (entry-bare c.requires in_register readable going lei-takes).one)
 
-pub returns-then-e-eq0 : goal.returns-then-e-eq0
-returns-then-e-eq0 c = lei-missing _ _ _ _ _ c.index-x.ensures c.entry_of-e.ensures c.if-e-eq0.true
+pub returns-in_default : goal.returns-in_default
+returns-in_default c = lei-missing _ _ _ _ c.index-x.ensures _ c.entry_of.ensures c.in_default.is
 
 pub overflow_mul-i : goal.overflow_mul-i
-overflow_mul-i c = omega (arith, (entry-few _ c.requires.checked _ _ c.entry_of-e.ensures).few)
+overflow_mul-i c = omega (arith, (entry-few _ c.requires.checked _ _ c.entry_of.ensures c.in-Some.is).few)
 
 pub overflow_add-i : goal.overflow_add-i
-overflow_add-i c = omega (arith, (entry-few _ c.requires.checked _ _ c.entry_of-e.ensures).few)
+overflow_add-i c = omega (arith, (entry-few _ c.requires.checked _ _ c.entry_of.ensures c.in-Some.is).few)
+
+pub overflow_add-i-2 : goal.overflow_add-i-2
+overflow_add-i-2 c = omega (arith, (entry-few _ c.requires.checked _ _ c.entry_of.ensures c.in-Some.is).few)
 
 pub offset_bounds-t-i : goal.offset_bounds-t-i
-offset_bounds-t-i c = omega (arith, (entry-few _ c.requires.checked _ _ c.entry_of-e.ensures).few)
+offset_bounds-t-i c = omega (arith, (entry-few _ c.requires.checked _ _ c.entry_of.ensures c.in-Some.is).few)
 
 pub bounds-t-i : goal.bounds-t-i
-bounds-t-i c = omega (arith, (entry-few _ c.requires.checked _ _ c.entry_of-e.ensures).inside)
+bounds-t-i c = omega (arith, (entry-few _ c.requires.checked _ _ c.entry_of.ensures c.in-Some.is).inside)
 
 pub returns-then-t-i-ne-VALUE_KIND : goal.returns-then-t-i-ne-VALUE_KIND
-returns-then-t-i-ne-VALUE_KIND c = lei-unvalued _ _ _ _ _ c.index-x.ensures c.entry_of-e.ensures c.if-e-eq0.false c.if-t-i-ne-VALUE_KIND.true
+returns-then-t-i-ne-VALUE_KIND c = lei-unvalued _ _ _ _ c.index-x.ensures _ c.entry_of.ensures c.in-Some.is c.if-t-i-ne-VALUE_KIND.true
 
 pub overflow_add-z : goal.overflow_add-z
-overflow_add-z c = omega (arith, (entry-few _ c.requires.checked _ _ c.entry_of-e.ensures).few)
+overflow_add-z c = omega (arith, (entry-few _ c.requires.checked _ _ c.entry_of.ensures c.in-Some.is).few)
 
 pub offset_bounds-t-i-2 : goal.offset_bounds-t-i-2
-offset_bounds-t-i-2 c = omega (arith, (entry-few _ c.requires.checked _ _ c.entry_of-e.ensures).few)
+offset_bounds-t-i-2 c = omega (arith, (entry-few _ c.requires.checked _ _ c.entry_of.ensures c.in-Some.is).few)
 
 pub bounds-t-i-2 : goal.bounds-t-i-2
-bounds-t-i-2 c = omega (arith, (entry-few _ c.requires.checked _ _ c.entry_of-e.ensures).inside)
+bounds-t-i-2 c = omega (arith, (entry-few _ c.requires.checked _ _ c.entry_of.ensures c.in-Some.is).inside)
 
 pub offset_bounds-z-x-2 : goal.offset_bounds-z-x-2
 offset_bounds-z-x-2 c = omega (arith, c.index-x.ensures, register-small c.args.t.now c.args.b (entry-bare c.requires in_register readable going lei-takes).one)
@@ -45,4 +48,4 @@ pub bounds-z-x-2 : goal.bounds-z-x-2
 bounds-z-x-2 c = omega (arith, c.index-x.ensures, register-small c.args.t.now c.args.b (entry-bare c.requires in_register readable going lei-takes).one)
 
 pub returns : goal.returns
-returns c = lei-loads _ _ _ _ _ c.index-x.ensures c.entry_of-e.ensures c.if-e-eq0.false c.if-t-i-ne-VALUE_KIND.false
+returns c = lei-loads _ _ _ _ c.index-x.ensures _ c.entry_of.ensures c.in-Some.is c.if-t-i-ne-VALUE_KIND.false

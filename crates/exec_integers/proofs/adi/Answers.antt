@@ -3,7 +3,7 @@ use Rattle.exec_integers.proofs.Laws.{steady-still, load-missing, load-got}
 use Rattle.exec_integers.proofs.adi.Goals as goal
 
 pub returns-in_default : goal.returns-in_default
-returns-in_default c = load-missing _ _ _ _ _ c.load-f.ensures c.in_default.is
+returns-in_default c = load-missing _ _ _ _ _ c.load.ensures c.in_default.is
 
 pub returns : goal.returns
-returns c = load-got _ _ _ _ _ c.load-f.ensures c.in-Got.is (steady-still _ _ _ c.requires.one) (accumulated-by _ c.accumulate.ensures (record { sfits = c.sum-n.type_inv }) c.sum-n.ensures)
+returns c = load-got _ _ _ _ _ c.load.ensures c.in-Some.is (steady-still _ _ _ c.requires.one) (accumulated-by _ c.accumulate.ensures (record { sfits = c.sum-n.type_inv }) c.sum-n.ensures)

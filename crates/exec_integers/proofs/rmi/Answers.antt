@@ -6,7 +6,7 @@ use Rattle.exec_integers.proofs.Laws.{steady-still, load-missing, load-got}
 use Rattle.exec_integers.proofs.rmi.Goals as goal
 
 pub returns-in_default : goal.returns-in_default
-returns-in_default c = load-missing _ _ _ _ _ c.load-f.ensures c.in_default.is
+returns-in_default c = load-missing _ _ _ _ _ c.load.ensures c.in_default.is
 
 pub returns : goal.returns
-returns c = load-got _ _ _ _ _ c.load-f.ensures c.in-Got.is (steady-still _ _ _ c.requires.one) (c.divide.ensures rem_z (to_z-of_z {w = w64} (record { sfits = c.remainder-n.type_inv }) ∙ c.remainder-n.ensures))
+returns c = load-got _ _ _ _ _ c.load.ensures c.in-Some.is (steady-still _ _ _ c.requires.one) (c.divide.ensures rem_z (to_z-of_z {w = w64} (record { sfits = c.remainder-n.type_inv }) ∙ c.remainder-n.ensures))

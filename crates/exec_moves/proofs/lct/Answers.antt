@@ -6,40 +6,19 @@ use Rattle.rules.specs.Exec.{copies}
 use Rattle.exec_core.proofs.Laws.{store-register}
 use Rattle.exec_moves.proofs.lct.Goals as goal
 
-pub overflow_add-b : goal.overflow_add-b
-overflow_add-b c = omega arith
-
-pub operand-one-requires : goal.operand-one-requires
-operand-one-requires c = omega arith
-
-pub overflow_add-b-2 : goal.overflow_add-b-2
-overflow_add-b-2 c = omega arith
-
-pub operand-two-requires : goal.operand-two-requires
-operand-two-requires c = omega arith
-
-pub fetch-f-requires : goal.fetch-f-requires
-fetch-f-requires c = (rw c.operand-two.ensures c.requires.two, c.requires.zero)
+pub fetch-requires : goal.fetch-requires
+fetch-requires c = (rw c.operand-two.ensures c.requires.two, c.requires.zero)
 
 pub returns-in_default : goal.returns-in_default
 unfolding copies given
-returns-in_default c = rw (← c.operand-two.ensures, ← c.fetch-f.ensures, c.in_default.is)
+returns-in_default c = rw (← c.operand-two.ensures, ← c.fetch.ensures, c.in_default.is)
 
 pub act-requires : goal.act-requires
 act-requires c = rw c.operand-two.ensures c.requires.two
 
-pub index-x-requires : goal.index-x-requires
-index-x-requires c = tt
-
-pub offset_bounds-z-x : goal.offset_bounds-z-x
-offset_bounds-z-x c = omega arith
-
 pub bounds-z-x : goal.bounds-z-x
 bounds-z-x c = omega (arith, ap Rules.Operand.reg c.operand-one.ensures, c.requires.one.register)
 
-pub overflow_add-result : goal.overflow_add-result
-overflow_add-result c = omega arith
-
 pub returns : goal.returns
 unfolding copies given
-returns c = rw (← c.operand-two.ensures, ← c.fetch-f.ensures, c.in-Got.is, ← c.act.ensures, store-register _ _ _ _ _ 0 c.requires.one, c.index-x.ensures, ap Rules.Operand.reg c.operand-one.ensures)
+returns c = rw (← c.operand-two.ensures, ← c.fetch.ensures, c.in-Some.is, ← c.act.ensures, store-register _ _ _ _ _ 0 c.requires.one, c.index-x.ensures, ap Rules.Operand.reg c.operand-one.ensures)

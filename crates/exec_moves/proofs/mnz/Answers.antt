@@ -4,15 +4,6 @@ use mathlib.Core.Path.{refl, ◌∙◌}
 use Rattle.exec_core.proofs.Laws.{zero-kept}
 use Rattle.exec_moves.proofs.mnz.Goals as goal
 
-pub overflow_add-b : goal.overflow_add-b
-overflow_add-b c = omega arith
-
-pub operand-one-requires : goal.operand-one-requires
-operand-one-requires c = omega arith
-
-pub overflow_add-b-2 : goal.overflow_add-b-2
-overflow_add-b-2 c = omega arith
-
 pub store-requires : goal.store-requires
 store-requires c = (rw c.operand-one.ensures c.requires.one, c.requires.zero, omega arith)
 

@@ -11,16 +11,16 @@ pub address-requires : goal.address-requires
 address-requires c = (rw c.operand.ensures (reads c.requires.one), c.requires.zero, held_of c.operand.ensures c.requires.one)
 
 pub returns-in_default : goal.returns-in_default
-returns-in_default c = store-outside _ _ _ (spot-of _ c.address.ensures c.operand.ensures) c.word_at-p.ensures _ _ _ _ c.in_default.is
+returns-in_default c = store-outside _ _ _ (spot-of _ c.address.ensures c.operand.ensures) c.word_at.ensures _ _ _ _ c.in_default.is
 
 pub overflow_add-j : goal.overflow_add-j
-overflow_add-j c = omega (arith, word_in _ _ _ (sym c.word_at-p.ensures ∙ ap cell_of c.in-Word.is))
+overflow_add-j c = omega (arith, word_in _ _ _ (sym c.word_at.ensures ∙ ap cell_of c.in-Some.is))
 
 pub returns-then-m-j : goal.returns-then-m-j
-returns-then-m-j c = store-past _ _ _ (spot-of _ c.address.ensures c.operand.ensures) c.word_at-p.ensures _ _ _ _ c.in-Word.is c.if-m-j.true
+returns-then-m-j c = store-past _ _ _ (spot-of _ c.address.ensures c.operand.ensures) c.word_at.ensures _ _ _ _ c.in-Some.is c.if-m-j.true
 
 pub returns-then-i-c : goal.returns-then-i-c
-returns-then-i-c c = store-constant _ _ _ (spot-of _ c.address.ensures c.operand.ensures) c.word_at-p.ensures _ _ _ _ c.in-Word.is c.if-m-j.false c.if-i-c.true
+returns-then-i-c c = store-constant _ _ _ (spot-of _ c.address.ensures c.operand.ensures) c.word_at.ensures _ _ _ _ c.in-Some.is c.if-m-j.false c.if-i-c.true
 
 pub returns : goal.returns
-returns c = store_words _ _ _ (spot-of _ c.address.ensures c.operand.ensures) c.word_at-p.ensures _ _ _ _ c.in-Word.is c.if-m-j.false c.if-i-c.false
+returns c = store_words _ _ _ (spot-of _ c.address.ensures c.operand.ensures) c.word_at.ensures _ _ _ _ c.in-Some.is c.if-m-j.false c.if-i-c.false

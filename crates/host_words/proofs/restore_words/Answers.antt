@@ -11,15 +11,15 @@ returns-then-not-check_table c = host-unwoken-table _ _ _ _ _ _ (sym c.check_tab
 pub returns-then-state-lt-WORDS : goal.returns-then-state-lt-WORDS
 returns-then-state-lt-WORDS c = host-unwoken-words _ _ _ _ _ _ (sym c.check_table.ensures ∙ c.if-not-check_table.false) c.if-state-lt-WORDS.true c.slice_known-1.given c.slice_known-2-1.given
 
-pub restore_checked-r-requires : goal.restore_checked-r-requires
-restore_checked-r-requires c = table-passed _ _ c.check_table.ensures (not_from_true _ c.if-not-check_table.false)
+pub restore_checked-requires : goal.restore_checked-requires
+restore_checked-requires c = table-passed _ _ c.check_table.ensures (not_from_true _ c.if-not-check_table.false)
 
-pub returns-then-number-eq-PASSED : goal.returns-then-number-eq-PASSED
-returns-then-number-eq-PASSED c =
+pub returns-in-Ok : goal.returns-in-Ok
+returns-in-Ok c =
     host-woken _ _ _ _ _ _ (sym c.check_table.ensures ∙ c.if-not-check_table.false)
-    _ _ _ c.if-state-lt-WORDS.false c.restore_checked-r.ensures c.number_of-number.ensures _ c.if-number-eq-PASSED.true c.put_state.ensures c.slice_known-3-1.given c.slice_known-then-number-eq-PASSED-1.given
+    _ c.if-state-lt-WORDS.false _ (rw c.in-Ok.is at c.restore_checked.ensures) _ c.put_state.ensures c.type_inv.memory c.type_inv.state
 
-pub returns-else-number-eq-PASSED : goal.returns-else-number-eq-PASSED
-returns-else-number-eq-PASSED c =
+pub returns-in-Err : goal.returns-in-Err
+returns-in-Err c =
     host-unwoken _ _ _ _ _ _ (sym c.check_table.ensures ∙ c.if-not-check_table.false)
-    _ _ _ c.if-state-lt-WORDS.false c.restore_checked-r.ensures c.number_of-number.ensures c.if-number-eq-PASSED.false c.slice_known-3-1.given c.slice_known-2-1.given
+    _ c.if-state-lt-WORDS.false _ (rw c.in-Err.is at c.restore_checked.ensures) _ c.number_of.ensures c.type_inv.memory c.type_inv.state

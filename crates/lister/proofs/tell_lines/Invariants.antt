@@ -4,8 +4,8 @@ use lib.ListN.{length, drop}
 use Rattle.language.specs.Text.{lines}
 use Rattle.lister.proofs.tell_lines.Given as goal
 
-abbrev pub invariant-loop-start : goal.invariant-loop-start
-invariant-loop-start l = (l.number + length (lines (drop l.at l.text)) ≡ length (lines l.text)) × (l.number ≤ l.at) × (l.at ≤ length l.text)
+abbrev pub invariant-loop-line : goal.invariant-loop-line
+invariant-loop-line l = (l.number + length (lines (drop l.at l.text)) ≡ length (lines l.text)) × (l.number ≤ l.at) × (l.at ≤ length l.text)
 
-abbrev pub decreases-loop-start : goal.decreases-loop-start
-decreases-loop-start l = length l.text - l.at
+abbrev pub decreases-loop-line : goal.decreases-loop-line
+decreases-loop-line l = length l.text - l.at

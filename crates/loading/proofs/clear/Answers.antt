@@ -12,12 +12,6 @@ offset_bounds-memory-i c = omega (arith, c.loop-i.invariant.2.same_length)
 pub bounds-memory-i : goal.bounds-memory-i
 bounds-memory-i c = omega (arith, c.loop-i.invariant.2.same_length)
 
-pub overflow_add-i : goal.overflow_add-i
-overflow_add-i c = omega arith
-
-pub loop-i-smaller : goal.loop-i-smaller
-loop-i-smaller c = omega arith
-
 pub loop-i-preserved : goal.loop-i-preserved
 loop-i-preserved c = let v = c.loop-i.invariant in (v.0, omega arith, clear_next _ _ _ _ v.1 (omega (arith, v.2.same_length)) v.2)
 

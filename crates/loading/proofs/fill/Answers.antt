@@ -37,12 +37,6 @@ offset_bounds-memory-i c = omega (arith, c.loop-i.invariant, c.requires.1)
 pub bounds-memory-i : goal.bounds-memory-i
 bounds-memory-i c = omega (arith, c.loop-i.invariant, c.requires.1)
 
-pub overflow_add-i : goal.overflow_add-i
-overflow_add-i c = omega (arith, c.loop-i.invariant)
-
-pub loop-i-smaller : goal.loop-i-smaller
-loop-i-smaller c = omega (arith, c.loop-i.invariant)
-
 pub loop-i-preserved : goal.loop-i-preserved
 loop-i-preserved c = let v = c.loop-i.invariant in (v.0, v.1, simp length-set v.2, omega arith, fill-next _ _ _ _ _ v.1 v.4)
 

@@ -8,12 +8,9 @@ use lib.ListN.{length-set}
 use Rattle.loading.proofs.Loads.{supply-next}
 use Rattle.loading.proofs.supply.Goals as goal
 
-pub fresh_count-f-requires : goal.fresh_count-f-requires
-fresh_count-f-requires c = c.requires.0
-
 pub loop-i-init : goal.loop-i-init
 unfolding supplied
-loop-i-init c = (c.fresh_count-f.ensures, refl, omega arith, refl)
+loop-i-init c = (refl, refl)
 
 pub fresh_index-at-requires : goal.fresh_index-at-requires
 fresh_index-at-requires c = (c.requires.0, omega arith)
@@ -30,18 +27,12 @@ offset_bounds-memory-at c = omega (arith, c.requires.1, c.fresh_index-at.ensures
 pub bounds-memory-at : goal.bounds-memory-at
 bounds-memory-at c = omega (arith, c.requires.1, c.fresh_index-at.ensures, fresh_index-inside _ c.requires.0 c.loop-i.i (omega arith))
 
-pub overflow_add-i : goal.overflow_add-i
-overflow_add-i c = omega arith
-
-pub loop-i-smaller : goal.loop-i-smaller
-loop-i-smaller c = omega arith
-
 pub loop-i-preserved : goal.loop-i-preserved
-loop-i-preserved c = let v = c.loop-i.invariant in (v.0, simp length-set v.1, omega arith, supply-next _ _ _ _ _ _ c.fresh_index-at.ensures v.3)
+loop-i-preserved c = let v = c.loop-i.invariant in (simp length-set v.0, supply-next _ _ _ _ _ _ c.fresh_index-at.ensures v.1)
 
 pub shape_of-memory : goal.shape_of-memory
 shape_of-memory c = omega arith
 
 pub returns : goal.returns
 unfolding refreshed
-returns c = let v = c.loop-i.invariant in let e : c.loop-i.i ≡ fresh_count c.args.table.now = omega arith in v.3 ∙ rw e
+returns c = let v = c.loop-i.invariant in let e : c.loop-i.i ≡ fresh_count c.args.table.now = omega arith in v.1 ∙ rw e

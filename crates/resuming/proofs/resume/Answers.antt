@@ -9,10 +9,10 @@ use borrow.Author.Rules.{rules}
 use Rattle.resuming.proofs.resume.Goals as goal
 
 pub resume_passed-requires : goal.resume_passed-requires
-resume_passed-requires c = let full : length c.args.state.links ≡ 256 = search rules in passed-by _ _ _ full (rw c.in-Granted.is at (c.check_state.ensures c.args.memory.now refl))
+resume_passed-requires c = let full : length c.args.state.links ≡ 256 = search rules in passed-by _ _ _ full (rw c.in-Ok.is at (c.check_state.ensures c.args.memory.now refl))
 
-pub returns-in-BadTable : goal.returns-in-BadTable
-returns-in-BadTable c = resume-refused _ _ _ _ _ BadTable bad_table refl (refused-by _ _ _ _ (rw c.in-BadTable.is at (c.check_state.ensures c.args.memory.now refl))) c.declined.ensures
+pub returns-in-Err-BadTable : goal.returns-in-Err-BadTable
+returns-in-Err-BadTable c = resume-refused _ _ _ _ _ BadTable bad_table refl (refused-by _ _ _ _ (rw (c.in-Err-BadTable.is, c.in-Err-BadTable.field-0-is) at (c.check_state.ensures c.args.memory.now refl))) c.declined.ensures
 
-pub returns-in-BadState : goal.returns-in-BadState
-returns-in-BadState c = resume-refused _ _ _ _ _ BadState bad_state refl (refused-by _ _ _ _ (rw c.in-BadState.is at (c.check_state.ensures c.args.memory.now refl))) c.declined-in-BadState.ensures
+pub returns-in-Err-BadState : goal.returns-in-Err-BadState
+returns-in-Err-BadState c = resume-refused _ _ _ _ _ BadState bad_state refl (refused-by _ _ _ _ (rw (c.in-Err-BadState.is, c.in-Err-BadState.field-0-is) at (c.check_state.ensures c.args.memory.now refl))) c.declined-in-Err-BadState.ensures

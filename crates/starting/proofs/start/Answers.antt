@@ -1,5 +1,5 @@
 -- `starting::start` meets its contract: 30, 10, 43, or the program begins.
-use mathlib.Core.Path.{sym, ◌∙◌}
+use mathlib.Core.Path.{refl, sym, ◌∙◌}
 use native.Mathlib.Omega.{arith}
 use Rattle.base.proofs.Bool.{true-ok}
 use Rattle.loading.proofs.Sizes.{sizes}
@@ -8,19 +8,19 @@ use Rattle.starting.proofs.Starting.{refuses-table, refuses-memory, refuses-supp
 use Rattle.starting.proofs.start.Goals as goal
 
 pub returns-then-not-check_table : goal.returns-then-not-check_table
-returns-then-not-check_table c = refuses-table _ _ _ _ _ _ (sym c.check_table.ensures ∙ c.if-not-check_table.true) c.refused.ensures
+returns-then-not-check_table c = refuses-table _ _ _ _ _ _ (sym c.check_table.ensures ∙ c.if-not-check_table.true) refl
 
 pub memory_fits-requires : goal.memory_fits-requires
 memory_fits-requires c = omega (arith, sizes _ (true-ok _ (sym c.check_table.ensures ∙ c.if-not-check_table.false)))
 
 pub returns-then-not-memory_fits : goal.returns-then-not-memory_fits
-returns-then-not-memory_fits c = refuses-memory _ _ _ _ _ _ (sym c.check_table.ensures ∙ c.if-not-check_table.false) (sym c.memory_fits.ensures ∙ c.if-not-memory_fits.true) c.refused-then-not-memory_fits.ensures
+returns-then-not-memory_fits c = refuses-memory _ _ _ _ _ _ (sym c.check_table.ensures ∙ c.if-not-check_table.false) (sym c.memory_fits.ensures ∙ c.if-not-memory_fits.true) refl
 
 pub fresh_count-requires : goal.fresh_count-requires
 fresh_count-requires c = true-ok _ (sym c.check_table.ensures ∙ c.if-not-check_table.false)
 
 pub returns-then-fresh-fresh_count : goal.returns-then-fresh-fresh_count
-returns-then-fresh-fresh_count c = refuses-supply _ _ _ _ _ _ (sym c.check_table.ensures ∙ c.if-not-check_table.false) (sym c.memory_fits.ensures ∙ c.if-not-memory_fits.false) (rw c.fresh_count.ensures at c.if-fresh-fresh_count.true) c.refused-then-fresh-fresh_count.ensures
+returns-then-fresh-fresh_count c = refuses-supply _ _ _ _ _ _ (sym c.check_table.ensures ∙ c.if-not-check_table.false) (sym c.memory_fits.ensures ∙ c.if-not-memory_fits.false) (rw c.fresh_count.ensures at c.if-fresh-fresh_count.true) refl
 
 pub kept-from-requires : goal.kept-from-requires
 kept-from-requires c = true-ok _ (sym c.check_table.ensures ∙ c.if-not-check_table.false)

@@ -4,7 +4,4 @@ use Prim.Native.Nat.{◌-◌, ◌≤◌}
 use Rattle.table_layout.proofs.fresh_ok.Given as goal
 
 abbrev pub invariant-loop-i : goal.invariant-loop-i
-invariant-loop-i l = (l.i ≤ l.f) × (l.low ≤ 200000) × (fresh_ok l.table l.initial.low 0 l.f ≡ fresh_ok l.table l.low l.i (l.f - l.i))
-
-abbrev pub decreases-loop-i : goal.decreases-loop-i
-decreases-loop-i l = l.f - l.i
+invariant-loop-i l = (l.low ≤ 200000) × (fresh_ok l.table l.initial.low 0 l.f ≡ fresh_ok l.table l.low l.i (l.f - l.i))

@@ -8,8 +8,8 @@ use Rattle.asm_collect.proofs.labels.letter_of.Goals as goal
 
 pub returns-then-sort-ne-INTERNAL : goal.returns-then-sort-ne-INTERNAL
 unfolding if
-returns-then-sort-ne-INTERNAL c = rw (is-sort 2 c.args.sort (omega arith) c.requires.2, ne_eqb 2 c.args.sort (λ q. c.if-sort-ne-INTERNAL.true (sym q)))
+returns-then-sort-ne-INTERNAL c = rw (is-sort 2 c.args.sort (omega arith) c.requires.1, ne_eqb 2 c.args.sort (λ q. c.if-sort-ne-INTERNAL.true (sym q)))
 
 pub returns : goal.returns
 unfolding if
-returns c = rw (is-sort 2 c.args.sort (omega arith) c.requires.2, eq-eqb 2 c.args.sort (sym c.if-sort-ne-INTERNAL.false)) c.value_at.ensures
+returns c = rw (is-sort 2 c.args.sort (omega arith) c.requires.1, eq-eqb 2 c.args.sort (sym c.if-sort-ne-INTERNAL.false)) c.value_at.ensures

@@ -6,7 +6,7 @@ use Rattle.asm_collect.proofs.Values.{no_value, placed-value}
 use Rattle.asm_collect.proofs.labels.value_of.Goals as goal
 
 pub returns-then-sort-ge-ENTRY : goal.returns-then-sort-ge-ENTRY
-returns-then-sort-ge-ENTRY c = (sym (placed-value (symbols_in c.args.syms.now c.args.n) (card_view c.args.c c.args.s.now) c.args.sort c.if-sort-ge-ENTRY.true), λ h. omega (arith, c.requires.2.place_le))
+returns-then-sort-ge-ENTRY c = (sym (placed-value (symbols_in c.args.symbols.now.words.now c.args.symbols.now.n) (card_view c.args.c c.args.s.now) c.args.sort c.if-sort-ge-ENTRY.true), λ h. omega (arith, c.requires.1.place_le))
 
 pub returns-then-sort-eq-WORD : goal.returns-then-sort-eq-WORD
 returns-then-sort-eq-WORD c = (rw c.if-sort-eq-WORD.true refl, λ h. omega (arith, c.if-sort-ge-ENTRY.false))
@@ -21,4 +21,4 @@ pub returns-then-sort-eq-EXTERNAL : goal.returns-then-sort-eq-EXTERNAL
 returns-then-sort-eq-EXTERNAL c = (rw c.if-sort-eq-EXTERNAL.true refl, λ h. omega (arith, c.if-sort-ge-ENTRY.false))
 
 pub returns : goal.returns
-returns c = (sym (no_value (symbols_in c.args.syms.now c.args.n) (card_view c.args.c c.args.s.now) c.args.sort (omega (arith, c.if-sort-ge-ENTRY.false)) c.if-sort-eq-WORD.false c.if-sort-eq-EQUAL.false c.if-sort-eq-INTERNAL.false c.if-sort-eq-EXTERNAL.false), λ h. omega (arith, c.if-sort-ge-ENTRY.false))
+returns c = (sym (no_value (symbols_in c.args.symbols.now.words.now c.args.symbols.now.n) (card_view c.args.c c.args.s.now) c.args.sort (omega (arith, c.if-sort-ge-ENTRY.false)) c.if-sort-eq-WORD.false c.if-sort-eq-EQUAL.false c.if-sort-eq-INTERNAL.false c.if-sort-eq-EXTERNAL.false), λ h. omega (arith, c.if-sort-ge-ENTRY.false))

@@ -10,12 +10,9 @@ pub returns-then-not-is_external : goal.returns-then-not-is_external
 unfolding counts_in if
 returns-then-not-is_external c = rw (sym (c.is_external.ensures c.args.s.now) ∙ c.if-not-is_external.true) (untouched _ _)
 
-pub value_at-requires : goal.value_at-requires
-value_at-requires c = (c.requires.0, c.requires.1)
-
 pub put-requires : goal.put-requires
 unfolding counts_in if
-put-requires c = omega (arith, rw (sym (c.is_external.ensures c.args.s.now) ∙ c.if-not-is_external.false) at c.requires.2)
+put-requires c = omega (arith, rw (sym (c.is_external.ensures c.args.s.now) ∙ c.if-not-is_external.false) at c.requires.1)
 
 pub returns : goal.returns
 unfolding counts_in if

@@ -13,7 +13,7 @@ unfolding entry_in if
 returns-then-not-holds_place c = rw (sym (c.holds_place.ensures c.args.s.now) ∙ c.if-not-holds_place.true) (untouched _ _)
 
 pub put_eight-requires : goal.put_eight-requires
-put_eight-requires c = omega (arith, entry-long (symbols_in c.args.syms.now c.args.n) (card_view c.args.c c.args.s.now) (sym (c.holds_place.ensures c.args.s.now) ∙ c.if-not-holds_place.false), c.requires.2)
+put_eight-requires c = omega (arith, entry-long (symbols_in c.args.symbols.now.words.now c.args.symbols.now.n) (card_view c.args.c c.args.s.now) (sym (c.holds_place.ensures c.args.s.now) ∙ c.if-not-holds_place.false), c.requires.1)
 
 pub returns : goal.returns
 unfolding entry_in if

@@ -13,12 +13,9 @@ pub returns-then-not-of_words : goal.returns-then-not-of_words
 unfolding words_in if
 returns-then-not-of_words c = rw (sym (c.of_words.ensures c.args.s.now) ∙ c.if-not-of_words.true) (untouched _ _)
 
-pub value_at-requires : goal.value_at-requires
-value_at-requires c = (c.requires.0, c.requires.1)
-
 pub put-requires : goal.put-requires
 unfolding words_in if
-put-requires c = omega (arith, rw (sym (c.of_words.ensures c.args.s.now) ∙ c.if-not-of_words.false, sym c.is_one_word.ensures ∙ c.if-is_one_word.true) at c.requires.2)
+put-requires c = omega (arith, rw (sym (c.of_words.ensures c.args.s.now) ∙ c.if-not-of_words.false, sym c.is_one_word.ensures ∙ c.if-is_one_word.true) at c.requires.1)
 
 pub returns-then-is_one_word : goal.returns-then-is_one_word
 unfolding words_in if
@@ -27,7 +24,7 @@ returns-then-is_one_word c = rw (sym (c.of_words.ensures c.args.s.now) ∙ c.if-
 pub put_real-requires : goal.put_real-requires
 unfolding words_in if
 put_real-requires c =
-    omega (arith, real-length (decimal_of (field_of c.args.s.now)), rw (sym (c.of_words.ensures c.args.s.now) ∙ c.if-not-of_words.false, sym c.is_one_word.ensures ∙ c.if-is_one_word.false, sym c.is_assembly.ensures ∙ c.if-is_assembly.true) at c.requires.2)
+    omega (arith, real-length (decimal_of (field_of c.args.s.now)), rw (sym (c.of_words.ensures c.args.s.now) ∙ c.if-not-of_words.false, sym c.is_one_word.ensures ∙ c.if-is_one_word.false, sym c.is_assembly.ensures ∙ c.if-is_assembly.true) at c.requires.1)
 
 pub returns-then-is_assembly : goal.returns-then-is_assembly
 unfolding words_in if
@@ -39,7 +36,7 @@ returns-then-not-is_assembly c = rw (sym (c.of_words.ensures c.args.s.now) ∙ c
 
 pub put_text-requires : goal.put_text-requires
 unfolding words_in if
-put_text-requires c = rw (sym (c.of_words.ensures c.args.s.now) ∙ c.if-not-of_words.false, sym c.is_one_word.ensures ∙ c.if-is_one_word.false, sym c.is_assembly.ensures ∙ c.if-is_assembly.false, sym c.is_assembly-2.ensures ∙ c.if-not-is_assembly.false) at c.requires.2
+put_text-requires c = rw (sym (c.of_words.ensures c.args.s.now) ∙ c.if-not-of_words.false, sym c.is_one_word.ensures ∙ c.if-is_one_word.false, sym c.is_assembly.ensures ∙ c.if-is_assembly.false, sym c.is_assembly-2.ensures ∙ c.if-not-is_assembly.false) at c.requires.1
 
 pub returns : goal.returns
 unfolding words_in if

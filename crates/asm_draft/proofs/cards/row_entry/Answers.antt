@@ -9,14 +9,8 @@ use Rattle.asm_types.specs.Views.{card_view}
 use mathlib.Core.Path.{sym, ap, subst, ◌∙◌}
 use Rattle.asm_draft.proofs.cards.row_entry.Goals as goal
 
-pub outcome_at-requires : goal.outcome_at-requires
-outcome_at-requires c = (c.requires.0, c.requires.1)
-
-pub outcome_at-requires-2 : goal.outcome_at-requires-2
-outcome_at-requires-2 c = (c.requires.0, c.requires.1)
-
 pub third_of-three-requires : goal.third_of-three-requires
-third_of-three-requires c = subst PlaceFits (sym c.outcome_at-2.ensures) (outcomes-fit c.args.syms.now c.args.n c.requires.1 (card_view c.args.c c.args.s.now) (c.type_count-i.result + 2))
+third_of-three-requires c = subst PlaceFits (sym c.outcome_at-2.ensures) (outcomes-fit c.args.symbols.now.words.now c.args.symbols.now.n c.args.symbols.now.symbolic (card_view c.args.c c.args.s.now) (c.type_count-i.result + 2))
 
 pub returns : goal.returns
 returns c = entry-is _ _ _ _ _ _ _ _ _ c.number_of-number.ensures c.type_count-i.ensures.0 c.first_operand-one.ensures (subst (λ (o : Outcome). FieldsOf o c.given_of-two.result) c.outcome_at.ensures c.given_of-two.ensures) (c.third_of-three.ensures ∙ ap third_of c.outcome_at-2.ensures)

@@ -2,16 +2,16 @@
 use Rattle.asm_draft.proofs.deck.put_part.Goals as goal
 
 pub put_entry-requires : goal.put_entry-requires
-put_entry-requires c = (c.requires.0, c.requires.1, rw c.in-Entries.is at c.requires.4)
+put_entry-requires c = (c.requires.0, rw c.in-Entries.is at c.requires.3)
 
 pub put_fresh-requires : goal.put_fresh-requires
-put_fresh-requires c = (c.requires.2, c.requires.3, rw c.in-Fresh.is at c.requires.4)
+put_fresh-requires c = (c.requires.1, c.requires.2, rw c.in-Fresh.is at c.requires.3)
 
 pub put_count-requires : goal.put_count-requires
-put_count-requires c = (c.requires.0, c.requires.1, rw c.in-Counts.is at c.requires.4)
+put_count-requires c = (c.requires.0, rw c.in-Counts.is at c.requires.3)
 
 pub put_starts-requires : goal.put_starts-requires
-put_starts-requires c = (c.requires.0, c.requires.1, c.requires.3, rw c.in-Starts.is at c.requires.4)
+put_starts-requires c = (c.requires.0, c.requires.2, rw c.in-Starts.is at c.requires.3)
 
 pub returns-in-Entries : goal.returns-in-Entries
 returns-in-Entries c = rw c.in-Entries.is c.put_entry.ensures

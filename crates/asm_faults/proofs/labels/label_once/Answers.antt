@@ -15,4 +15,4 @@ pub returns : goal.returns
 unfolding label_once is_labelled ◌or◌
 returns c =
     λ l. rw (ne_eqb _ 0 c.if-c-eq0.false)
-    (c.is_one_use.ensures ∙ ap (is_one_use (above c.args.c.spot.line (fields_named c.args.c.label (symbols_in c.args.syms.now c.args.n)))) c.sort_of-sort.ensures.0)
+    (c.is_one_use.ensures ∙ ap (is_one_use (above c.args.c.spot.line (fields_named c.args.c.label (symbols_in c.args.symbols.now.words.now c.args.symbols.now.n)))) c.sort_of-sort.ensures.0)

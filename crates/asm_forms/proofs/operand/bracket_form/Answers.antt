@@ -9,11 +9,11 @@ use Rattle.asm_forms.proofs.Forms.{index-in-le}
 use Rattle.asm_forms.proofs.operand.bracket_form.Goals as goal
 
 pub narrow-requires : goal.narrow-requires
-narrow-requires c = index-in-le c.args.s.now 4 _ (sym c.index_in-r.ensures ∙ ap parsed_view c.in-Is.is)
+narrow-requires c = index-in-le c.args.s.now 4 _ (sym c.index_in-r.ensures ∙ ap parsed_view c.in-Some.is)
 
-pub returns-in-Is : goal.returns-in-Is
+pub returns-in-Some : goal.returns-in-Some
 unfolding marked_form if
-returns-in-Is c = rw (sym c.index_in-r.ensures ∙ ap parsed_view c.in-Is.is, c.requires, c.narrow.ensures) refl
+returns-in-Some c = rw (sym c.index_in-r.ensures ∙ ap parsed_view c.in-Some.is, c.requires, c.narrow.ensures) refl
 
 pub returns-then-byte_at-ne43 : goal.returns-then-byte_at-ne43
 unfolding marked_form if
@@ -35,14 +35,14 @@ returns-in_default-q c =
     ) refl
 
 pub narrow-requires-2 : goal.narrow-requires-2
-narrow-requires-2 c = index-in-le c.args.s.now 5 _ (sym c.index_in-q.ensures ∙ ap parsed_view c.in-Is-q.is)
+narrow-requires-2 c = index-in-le c.args.s.now 5 _ (sym c.index_in-q.ensures ∙ ap parsed_view c.in-Some-q.is)
 
 pub returns : goal.returns
 unfolding marked_form if
 returns c =
     rw (
       sym c.index_in-r.ensures ∙ ap parsed_view c.in_default.is,
-      sym c.index_in-q.ensures ∙ ap parsed_view c.in-Is-q.is,
+      sym c.index_in-q.ensures ∙ ap parsed_view c.in-Some-q.is,
       c.requires,
       eq-eqb _ (byte "+") (sym c.byte_at.ensures ∙ c.if-byte_at-ne43.false),
       c.narrow-2.ensures,

@@ -24,7 +24,7 @@ returns-in_default-w c =
     let s = c.args.s.now in
     let l = take c.args.i s in
     let m = drop (c.args.i + 1) s in
-    let t = on-front (λ l. cut_read (term_in l)) s c.args.i c.term_of-v.ensures ∙ ap value_view c.in-Is.is in
+    let t = on-front (λ l. cut_read (term_in l)) s c.args.i c.term_of-v.ensures ∙ ap value_view c.in-Some.is in
     let u = on-rest (λ l. cut_read (term_in l)) s (c.args.i + 1) c.term_of-w.ensures ∙ ap value_view c.in_default-w.is in
     rw (no_symbol (symbol_of m) (number_of m) u, no_number (symbol_of m) (number_of m) u)
     (with-term (symbol_of l) (number_of l) _ (λ w. formless) (λ w. formless) formless (λ w. refl) t)
@@ -35,8 +35,8 @@ returns-then-s-i-eq43 c =
     let s = c.args.s.now in
     let l = take c.args.i s in
     let m = drop (c.args.i + 1) s in
-    let t = on-front (λ l. cut_read (term_in l)) s c.args.i c.term_of-v.ensures ∙ ap value_view c.in-Is.is in
-    let u = on-rest (λ l. cut_read (term_in l)) s (c.args.i + 1) c.term_of-w.ensures ∙ ap value_view c.in-Is-w.is in
+    let t = on-front (λ l. cut_read (term_in l)) s c.args.i c.term_of-v.ensures ∙ ap value_view c.in-Some.is in
+    let u = on-rest (λ l. cut_read (term_in l)) s (c.args.i + 1) c.term_of-w.ensures ∙ ap value_view c.in-Some-w.is in
     rw (eq-eqb _ (byte "+") c.if-s-i-eq43.true) (combined-read (symbol_of l) (number_of l) (symbol_of m) (number_of m) true _ _ t u)
 
 pub returns : goal.returns
@@ -45,6 +45,6 @@ returns c =
     let s = c.args.s.now in
     let l = take c.args.i s in
     let m = drop (c.args.i + 1) s in
-    let t = on-front (λ l. cut_read (term_in l)) s c.args.i c.term_of-v.ensures ∙ ap value_view c.in-Is.is in
-    let u = on-rest (λ l. cut_read (term_in l)) s (c.args.i + 1) c.term_of-w.ensures ∙ ap value_view c.in-Is-w.is in
+    let t = on-front (λ l. cut_read (term_in l)) s c.args.i c.term_of-v.ensures ∙ ap value_view c.in-Some.is in
+    let u = on-rest (λ l. cut_read (term_in l)) s (c.args.i + 1) c.term_of-w.ensures ∙ ap value_view c.in-Some-w.is in
     rw (ne_eqb _ (byte "+") c.if-s-i-eq43.false) (combined-read (symbol_of l) (number_of l) (symbol_of m) (number_of m) false _ _ t u)

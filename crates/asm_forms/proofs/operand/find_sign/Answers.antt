@@ -20,4 +20,4 @@ pub loop-i-preserved : goal.loop-i-preserved
 loop-i-preserved c = (span_more before_sign _ _ c.loop-i-test.true (no_sign _ c.if-s-i-eq43.false c.if-s-i-eq45.false) ∙ c.loop-i.invariant.0, search rules)
 
 pub returns : goal.returns
-returns c = span-out before_sign _ _ c.loop-i-test.false ∙ c.loop-i.invariant.0
+returns c = omega (arith, span-out before_sign c.args.s.now _ c.loop-i-test.false, c.loop-i.invariant.0)

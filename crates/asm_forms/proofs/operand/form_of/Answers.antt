@@ -10,24 +10,24 @@ use Rattle.asm_forms.specs.Terms.{cut_read, term_in, unread, value_view}
 use Rattle.asm_forms.proofs.Forms.{no_number, no_symbol, with-term}
 use Rattle.asm_forms.proofs.operand.form_of.Goals as goal
 
-pub returns-in-Is : goal.returns-in-Is
+pub returns-in-Some : goal.returns-in-Some
 unfolding form_of if
-returns-in-Is c =
+returns-in-Some c =
     let s = c.args.s.now in
-    with-term (symbol_of s) (number_of s) _ plain plain _ (λ w. refl) (sym c.term_of-v.ensures ∙ ap value_view c.in-Is.is)
+    with-term (symbol_of s) (number_of s) _ plain plain _ (λ w. refl) (sym c.term_of-v.ensures ∙ ap value_view c.in-Some.is)
 
 pub narrow-requires : goal.narrow-requires
-narrow-requires c = register-le c.args.s.now _ (sym c.register_of-r.ensures ∙ ap parsed_view c.in-Is-r.is)
+narrow-requires c = register-le c.args.s.now _ (sym c.register_of-r.ensures ∙ ap parsed_view c.in-Some-r.is)
 
-pub returns-in-Is-r : goal.returns-in-Is-r
+pub returns-in-Some-r : goal.returns-in-Some-r
 unfolding form_of if
-returns-in-Is-r c =
+returns-in-Some-r c =
     let s = c.args.s.now in
     let t : cut_read (term_in s) ≡ unread = sym c.term_of-v.ensures ∙ ap value_view c.in_default.is in
     rw (
       no_symbol (symbol_of s) (number_of s) t,
       no_number (symbol_of s) (number_of s) t,
-      sym c.register_of-r.ensures ∙ ap parsed_view c.in-Is-r.is,
+      sym c.register_of-r.ensures ∙ ap parsed_view c.in-Some-r.is,
       c.narrow.ensures,
     ) refl
 

@@ -13,4 +13,4 @@ returns-in_default c = rw (c.requires.1, on-rest symbol_of c.args.s.now 1 c.symb
 
 pub returns : goal.returns
 unfolding marked_form if
-returns c = rw (c.requires.1, on-rest symbol_of c.args.s.now 1 c.symbol_of-k.ensures ∙ ap parsed_view c.in-Is.is) refl
+returns c = rw (c.requires.1, on-rest symbol_of c.args.s.now 1 c.symbol_of-k.ensures ∙ ap parsed_view c.in-Some.is) refl

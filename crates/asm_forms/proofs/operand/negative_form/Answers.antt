@@ -9,11 +9,11 @@ use Rattle.asm_types.specs.Views.{cut_parsed, parsed_view}
 use Rattle.asm_forms.proofs.Forms.{index-in-le, no_cut, on-rest, with_number}
 use Rattle.asm_forms.proofs.operand.negative_form.Goals as goal
 
-pub returns-in-Is : goal.returns-in-Is
+pub returns-in-Some : goal.returns-in-Some
 unfolding signed_form if
-returns-in-Is c =
+returns-in-Some c =
     let s = c.args.s.now in
-    let x = on-rest (λ l. cut_parsed (number_of l)) s 1 c.number_of-n.ensures ∙ ap parsed_view c.in-Is.is in
+    let x = on-rest (λ l. cut_parsed (number_of l)) s 1 c.number_of-n.ensures ∙ ap parsed_view c.in-Some.is in
     rw c.requires.1 (with_number (number_of (drop 1 s)) _ true (form_or (index_in (drop 1 s) 4) falling formless) x)
 
 pub returns-in_default-r : goal.returns-in_default-r
@@ -27,12 +27,12 @@ returns-in_default-r c =
 pub narrow-requires : goal.narrow-requires
 narrow-requires c =
     let s = c.args.s.now in
-    index-in-le (drop 1 s) 4 _ (on-rest (λ l. index_in l 4) s 1 c.index_in-r.ensures ∙ ap parsed_view c.in-Is-r.is)
+    index-in-le (drop 1 s) 4 _ (on-rest (λ l. index_in l 4) s 1 c.index_in-r.ensures ∙ ap parsed_view c.in-Some-r.is)
 
 pub returns : goal.returns
 unfolding signed_form if
 returns c =
     let s = c.args.s.now in
     let x = on-rest (λ l. cut_parsed (number_of l)) s 1 c.number_of-n.ensures ∙ ap parsed_view c.in_default.is in
-    let y = on-rest (λ l. index_in l 4) s 1 c.index_in-r.ensures ∙ ap parsed_view c.in-Is-r.is in
+    let y = on-rest (λ l. index_in l 4) s 1 c.index_in-r.ensures ∙ ap parsed_view c.in-Some-r.is in
     rw (c.requires.1, no_cut (number_of (drop 1 s)) x, y, c.narrow.ensures) refl

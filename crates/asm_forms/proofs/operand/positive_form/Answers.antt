@@ -20,5 +20,5 @@ pub returns : goal.returns
 unfolding signed_form if
 returns c =
     let s = c.args.s.now in
-    let x = on-rest (λ l. cut_parsed (number_of l)) s 1 c.number_of-n.ensures ∙ ap parsed_view c.in-Is.is in
+    let x = on-rest (λ l. cut_parsed (number_of l)) s 1 c.number_of-n.ensures ∙ ap parsed_view c.in-Some.is in
     rw c.requires.1 (with_number (number_of (drop 1 s)) _ false formless x)

@@ -5,17 +5,18 @@ use Rattle.asm_types.specs.Views.{parsed_view}
 use Rattle.asm_forms.proofs.Forms.{no_cut, number_read}
 use Rattle.asm_forms.proofs.operand.term_of.Goals as goal
 
-pub returns-in-Is : goal.returns-in-Is
-returns-in-Is c = rw (sym c.symbol_of-k.ensures ∙ ap parsed_view c.in-Is.is) refl
+pub returns-in-Some : goal.returns-in-Some
+returns-in-Some c = rw (sym c.symbol_of-k.ensures ∙ ap parsed_view c.in-Some.is) refl
 
-pub returns-in_default-n : goal.returns-in_default-n
-returns-in_default-n c =
+pub returns-in_err-n : goal.returns-in_err-n
+returns-in_err-n c =
     rw (
+      c.from_residual.ensures,
       sym c.symbol_of-k.ensures ∙ ap parsed_view c.in_default.is,
-      no_cut (number_of c.args.s.now) (sym c.number_of-n.ensures ∙ ap parsed_view c.in_default-n.is),
+      no_cut (number_of c.args.s.now) (sym c.number_of.ensures ∙ ap parsed_view c.in_err-n.was),
     ) refl
 
 pub returns : goal.returns
 returns c =
     rw (sym c.symbol_of-k.ensures ∙ ap parsed_view c.in_default.is)
-    (number_read (number_of c.args.s.now) _ (sym c.number_of-n.ensures ∙ ap parsed_view c.in-Is-n.is))
+    (number_read (number_of c.args.s.now) _ (sym c.number_of.ensures ∙ ap parsed_view c.in_ok-n.was))

@@ -1,4 +1,4 @@
-use Prim.Native.Nat.{◌≤◌}
+use Prim.Native.Nat.{◌-◌, ◌≤◌}
 use mathlib.Core.Path.{◌≡◌}
 use mathlib.Core.List.{map}
 use lib.ListN.{length, get_or}
@@ -7,7 +7,4 @@ use Rattle.asm_forms.proofs.Divided.{form_from}
 use Rattle.asm_forms.proofs.texts.form_at.Given as goal
 
 abbrev pub invariant-loop-k : goal.invariant-loop-k
-invariant-loop-k l = (form_from l.real l.f l.from l.k ≡ get_or (map (form_by l.real) (texts_in l.f)) l.i formless) × (l.from ≤ length l.f)
-
-abbrev pub decreases-loop-k : goal.decreases-loop-k
-decreases-loop-k l = l.k
+invariant-loop-k l = (form_from l.real l.f l.from (l.i - l._k) ≡ get_or (map (form_by l.real) (texts_in l.f)) l.i formless) × (l.from ≤ length l.f)

@@ -8,8 +8,8 @@ use Rattle.asm_forms.proofs.texts.form_by.Goals as goal
 pub returns-then-not-real : goal.returns-then-not-real
 returns-then-not-real c = c.form_of.ensures ∙ ap cut_form (of_others c.args.real c.args.s.now c.if-not-real.true)
 
-pub returns-in_default : goal.returns-in_default
-returns-in_default c = no-real c.args.real c.args.s.now c.if-not-real.false (sym (ap decimal_view c.in_default.is) ∙ c.decimal_of-d.ensures)
+pub returns-in-None : goal.returns-in-None
+returns-in-None c = no-real c.args.real c.args.s.now c.if-not-real.false (sym (ap decimal_view c.in-None.is) ∙ c.decimal_of.ensures)
 
-pub returns : goal.returns
-returns c = of-real c.args.real c.args.s.now c.if-not-real.false (sym (ap decimal_view c.in-Written.is) ∙ c.decimal_of-d.ensures)
+pub returns-in-Some : goal.returns-in-Some
+returns-in-Some c = of-real c.args.real c.args.s.now c.if-not-real.false (sym (ap decimal_view c.in-Some.is) ∙ c.decimal_of.ensures)

@@ -47,11 +47,11 @@ returns-in-Indexed c = c.indexed_by.ensures ∙ rw c.in-Indexed.is refl
 
 pub returns-in-Sum : goal.returns-in-Sum
 unfolding combined_by if
-returns-in-Sum c = c.terms_by.ensures ∙ rw c.in-Sum.is (both_by (term_by (symbols_in c.args.syms.now c.args.n) c.args.line (term_view c.in-Sum.p.first)) (term_by (symbols_in c.args.syms.now c.args.n) c.args.line (term_view c.in-Sum.p.second)) (combined_by false) summed (λ v w. refl))
+returns-in-Sum c = c.terms_by.ensures ∙ rw c.in-Sum.is (both_by (term_by (symbols_in c.args.symbols.now.words.now c.args.symbols.now.n) c.args.line (term_view c.in-Sum.p.first)) (term_by (symbols_in c.args.symbols.now.words.now c.args.symbols.now.n) c.args.line (term_view c.in-Sum.p.second)) (combined_by false) summed (λ v w. refl))
 
 pub returns-in-Difference : goal.returns-in-Difference
 unfolding combined_by if
-returns-in-Difference c = c.terms_by-in-Difference.ensures ∙ rw c.in-Difference.is (both_by (term_by (symbols_in c.args.syms.now c.args.n) c.args.line (term_view c.in-Difference.p.first)) (term_by (symbols_in c.args.syms.now c.args.n) c.args.line (term_view c.in-Difference.p.second)) (combined_by true) subtracted (λ v w. refl))
+returns-in-Difference c = c.terms_by-in-Difference.ensures ∙ rw c.in-Difference.is (both_by (term_by (symbols_in c.args.symbols.now.words.now c.args.symbols.now.n) c.args.line (term_view c.in-Difference.p.first)) (term_by (symbols_in c.args.symbols.now.words.now c.args.symbols.now.n) c.args.line (term_view c.in-Difference.p.second)) (combined_by true) subtracted (λ v w. refl))
 
 pub returns-in-Positive : goal.returns-in-Positive
 unfolding signed_within if

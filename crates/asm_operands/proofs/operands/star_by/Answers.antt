@@ -12,4 +12,4 @@ returns-in_default c = let s = c.args.s.now in let q : supplied_of (s at 0) (s a
 
 pub returns : goal.returns
 unfolding star_of
-returns c = let s = c.args.s.now in let q : supplied_of (s at 0) (s at 1) (s at 2) (s at 3) (s at 4) ≡ c.supplied_value-found.result = sym (c.supplied_value-found.ensures ∙ rw (c.byte_at.ensures, c.byte_at-2.ensures, c.byte_at-3.ensures, c.byte_at-4.ensures, c.byte_at-5.ensures) refl) in c.value_of.ensures ∙ sym (ap supplied_by (q ∙ c.in-Value.is))
+returns c = let s = c.args.s.now in let q : supplied_of (s at 0) (s at 1) (s at 2) (s at 3) (s at 4) ≡ c.supplied_value-found.result = sym (c.supplied_value-found.ensures ∙ rw (c.byte_at.ensures, c.byte_at-2.ensures, c.byte_at-3.ensures, c.byte_at-4.ensures, c.byte_at-5.ensures) refl) in c.value_of.ensures ∙ sym (ap supplied_by (q ∙ c.in-Some.is))

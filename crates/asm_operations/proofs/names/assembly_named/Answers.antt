@@ -14,11 +14,11 @@ returns-in_default c =
 pub overflow_cast-result : goal.overflow_cast-result
 overflow_cast-result c =
     let f = c in
-    let i : c.in-Row.i < 14 =
-    assembly-inside _ f.assemblies-list.ensures _ _ _ _ f.find_letters_in-found.ensures _ c.in-Row.is in
+    let i : c.in-Some.i < 14 =
+    assembly-inside _ f.assemblies-list.ensures _ _ _ _ f.find_letters_in-found.ensures _ c.in-Some.is in
     search rules
 
 pub returns : goal.returns
 returns c =
     let f = c in
-    assembly-found _ f.assemblies-list.ensures _ _ _ _ f.find_letters_in-found.ensures _ c.in-Row.is
+    assembly-found _ f.assemblies-list.ensures _ _ _ _ f.find_letters_in-found.ensures _ c.in-Some.is

@@ -21,7 +21,7 @@ overflow_add-row c =
     let e = f in
     let g = e.begins-from.ensures in
     let a = e in
-    omega (arith, inside-from a.args.list.now a.requires a.args.a a.args.b a.args.c _ _ g.0 e.ends-to.ensures.0 e.ends-to.ensures.1 e.ends-to.ensures.2 _ f.find_within-found.ensures _ c.in-Row.is)
+    omega (arith, inside-from a.args.list.now a.requires a.args.a a.args.b a.args.c _ _ g.0 e.ends-to.ensures.0 e.ends-to.ensures.1 e.ends-to.ensures.2 _ f.find_within-found.ensures _ c.in-Some.is)
 
 pub returns : goal.returns
 unfolding operation_named
@@ -30,4 +30,4 @@ returns c =
     let e = f in
     let g = e.begins-from.ensures in
     let a = e in
-    rw (← row_from a.args.list.now a.requires a.args.a a.args.b a.args.c _ _ g.0 e.ends-to.ensures.0 e.ends-to.ensures.1 e.ends-to.ensures.2 _ f.find_within-found.ensures _ c.in-Row.is)
+    rw (← row_from a.args.list.now a.requires a.args.a a.args.b a.args.c _ _ g.0 e.ends-to.ensures.0 e.ends-to.ensures.1 e.ends-to.ensures.2 _ f.find_within-found.ensures _ c.in-Some.is)

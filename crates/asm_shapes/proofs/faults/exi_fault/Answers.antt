@@ -5,16 +5,16 @@ use mathlib.Core.Path.{sym, ◌∙◌}
 use Rattle.asm_shapes.proofs.faults.exi_fault.Goals as goal
 
 pub returns-then-exi_ok : goal.returns-then-exi_ok
-returns-then-exi_ok c = exi-lawful c.args.table.now c.args.p (sym c.exi_ok.ensures ∙ c.if-exi_ok.true)
+returns-then-exi_ok c = exi-lawful c.args.places.now.table.now c.args.p (sym c.exi_ok.ensures ∙ c.if-exi_ok.true)
 
-pub returns-then-body-p-ne0 : goal.returns-then-body-p-ne0
-returns-then-body-p-ne0 c = exi-numbered c.args.table.now c.args.p _ (c.requires.0.bodies c.args.p (omega arith)) (sym c.exi_ok.ensures ∙ c.if-exi_ok.false) c.if-body-p-ne0.true
+pub returns-then-places-p-ne0 : goal.returns-then-places-p-ne0
+returns-then-places-p-ne0 c = exi-numbered c.args.places.now.table.now c.args.p _ (c.args.places.now.known.bodies c.args.p (omega arith)) (sym c.exi_ok.ensures ∙ c.if-exi_ok.false) c.if-places-p-ne0.true
 
-pub returns-then-table-p-eq-NO_KIND : goal.returns-then-table-p-eq-NO_KIND
-returns-then-table-p-eq-NO_KIND c = exi-left-out c.args.table.now c.args.p _ (c.requires.0.bodies c.args.p (omega arith)) c.if-body-p-ne0.false c.if-table-p-eq-NO_KIND.true
+pub returns-then-places-p-eq-NO_KIND : goal.returns-then-places-p-eq-NO_KIND
+returns-then-places-p-eq-NO_KIND c = exi-left-out c.args.places.now.table.now c.args.p _ (c.args.places.now.known.bodies c.args.p (omega arith)) c.if-places-p-ne0.false c.if-places-p-eq-NO_KIND.true
 
-pub returns-then-table-p-gt0 : goal.returns-then-table-p-gt0
-returns-then-table-p-gt0 c = exi-outer c.args.table.now c.args.p _ (c.requires.0.bodies c.args.p (omega arith)) c.if-body-p-ne0.false c.if-table-p-eq-NO_KIND.false c.if-table-p-gt0.true
+pub returns-then-places-p-gt0 : goal.returns-then-places-p-gt0
+returns-then-places-p-gt0 c = exi-outer c.args.places.now.table.now c.args.p _ (c.args.places.now.known.bodies c.args.p (omega arith)) c.if-places-p-ne0.false c.if-places-p-eq-NO_KIND.false c.if-places-p-gt0.true
 
 pub returns : goal.returns
-returns c = exi-zero c.args.table.now c.args.p _ (c.requires.0.bodies c.args.p (omega arith)) c.if-body-p-ne0.false c.if-table-p-eq-NO_KIND.false c.if-table-p-gt0.false
+returns c = exi-zero c.args.places.now.table.now c.args.p _ (c.args.places.now.known.bodies c.args.p (omega arith)) c.if-places-p-ne0.false c.if-places-p-eq-NO_KIND.false c.if-places-p-gt0.false

@@ -5,9 +5,9 @@ use native.Mathlib.Omega.{arith}
 use mathlib.Core.Path.{refl, ◌∙◌}
 use Rattle.asm_shapes.proofs.loose.counted_fault.Goals as goal
 
-pub returns-then-n-k : goal.returns-then-n-k
+pub returns-then-places-k : goal.returns-then-places-k
 unfolding size
-returns-then-n-k c = rw c.in-Is.is (list-long c.args.table.now c.args.p c.in-Is.k (omega (arith, c.requires.0.count)))
+returns-then-places-k c = rw c.in-Some.is (list-long c.args.places.now.table.now c.args.p c.in-Some.k (omega (arith, c.args.places.now.known.count)))
 
 pub returns : goal.returns
-returns c = c.list_fault.ensures ∙ rw c.in-Is.is refl
+returns c = c.list_fault.ensures ∙ rw c.in-Some.is refl

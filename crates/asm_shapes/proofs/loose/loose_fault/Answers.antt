@@ -9,7 +9,7 @@ use mathlib.Core.Path.{ap, ◌∙◌}
 use Rattle.asm_shapes.proofs.loose.loose_fault.Goals as goal
 
 pub shared_fault-requires : goal.shared_fault-requires
-shared_fault-requires c = (c.requires.0, c.requires.1, omega (arith, c.loose_class-f.ensures, faults-small (loose_class c.args.table.now c.args.p (parsed_view c.args.count) (class_at c.args.table.now c.args.p))))
+shared_fault-requires c = (c.requires, omega (arith, c.loose_class-f.ensures, faults-small (loose_class c.args.places.now.table.now c.args.p (parsed_view c.args.count) (class_at c.args.places.now.table.now c.args.p))))
 
 pub returns : goal.returns
-returns c = c.shared_fault.ensures ∙ ap (shared c.args.table.now c.args.p) c.loose_class-f.ensures ∙ loose-shared c.args.table.now c.args.p (parsed_view c.args.count)
+returns c = c.shared_fault.ensures ∙ ap (shared c.args.places.now.table.now c.args.p) c.loose_class-f.ensures ∙ loose-shared c.args.places.now.table.now c.args.p (parsed_view c.args.count)

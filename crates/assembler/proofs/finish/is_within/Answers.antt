@@ -11,30 +11,30 @@ use Rattle.assembler.proofs.finish.is_within.Goals as goal
 pub returns-then-index-gt-MAX_INSTRS : goal.returns-then-index-gt-MAX_INSTRS
 unfolding is_within
 returns-then-index-gt-MAX_INSTRS c =
-    let k = c.args.c in
-    let a : 1024 < k.size = omega (arith, c.index.ensures, c.if-index-gt-MAX_INSTRS.true) in
-    sym (and_no _ _ (lt-leb k.size 1024 a))
+    let k = c.args.c.now in
+    let a : 1024 < k.counts.size = omega (arith, c.index.ensures, c.if-index-gt-MAX_INSTRS.true) in
+    sym (and_no _ _ (lt-leb k.counts.size 1024 a))
 
 pub returns-then-c-gt-MAX_LABELS : goal.returns-then-c-gt-MAX_LABELS
 unfolding is_within
 returns-then-c-gt-MAX_LABELS c =
-    let k = c.args.c in
-    let a : k.size ≤ 1024 = omega (arith, c.index.ensures, c.if-index-gt-MAX_INSTRS.false) in
-    sym (and_yes _ _ (le-leb k.size 1024 a) ∙ and_no _ _ (lt-leb k.labels 512 c.if-c-gt-MAX_LABELS.true))
+    let k = c.args.c.now in
+    let a : k.counts.size ≤ 1024 = omega (arith, c.index.ensures, c.if-index-gt-MAX_INSTRS.false) in
+    sym (and_yes _ _ (le-leb k.counts.size 1024 a) ∙ and_no _ _ (lt-leb k.labels 512 c.if-c-gt-MAX_LABELS.true))
 
 pub returns-then-index-gt-MAX_FRESH : goal.returns-then-index-gt-MAX_FRESH
 unfolding is_within
 returns-then-index-gt-MAX_FRESH c =
-    let k = c.args.c in
-    let a : k.size ≤ 1024 = omega (arith, c.index.ensures, c.if-index-gt-MAX_INSTRS.false) in
-    let d : 32 < k.fresh = omega (arith, c.index-2.ensures, c.if-index-gt-MAX_FRESH.true) in
-    sym (and_yes _ _ (le-leb k.size 1024 a) ∙ and_yes _ _ (le-leb k.labels 512 c.if-c-gt-MAX_LABELS.false) ∙ and_no _ _ (lt-leb k.fresh 32 d))
+    let k = c.args.c.now in
+    let a : k.counts.size ≤ 1024 = omega (arith, c.index.ensures, c.if-index-gt-MAX_INSTRS.false) in
+    let d : 32 < k.counts.fresh = omega (arith, c.index-2.ensures, c.if-index-gt-MAX_FRESH.true) in
+    sym (and_yes _ _ (le-leb k.counts.size 1024 a) ∙ and_yes _ _ (le-leb k.labels 512 c.if-c-gt-MAX_LABELS.false) ∙ and_no _ _ (lt-leb k.counts.fresh 32 d))
 
 pub returns : goal.returns
 unfolding is_within
 returns c =
-    let k = c.args.c in
-    let a : k.size ≤ 1024 = omega (arith, c.index.ensures, c.if-index-gt-MAX_INSTRS.false) in
-    let d : k.fresh ≤ 32 = omega (arith, c.index-2.ensures, c.if-index-gt-MAX_FRESH.false) in
+    let k = c.args.c.now in
+    let a : k.counts.size ≤ 1024 = omega (arith, c.index.ensures, c.if-index-gt-MAX_INSTRS.false) in
+    let d : k.counts.fresh ≤ 32 = omega (arith, c.index-2.ensures, c.if-index-gt-MAX_FRESH.false) in
     ap (λ (m : ℕ). leb m 8128) c.sum.ensures
-    ∙ sym (and_yes _ _ (le-leb k.size 1024 a) ∙ and_yes _ _ (le-leb k.labels 512 c.if-c-gt-MAX_LABELS.false) ∙ and_yes _ _ (le-leb k.fresh 32 d))
+    ∙ sym (and_yes _ _ (le-leb k.counts.size 1024 a) ∙ and_yes _ _ (le-leb k.labels 512 c.if-c-gt-MAX_LABELS.false) ∙ and_yes _ _ (le-leb k.counts.fresh 32 d))

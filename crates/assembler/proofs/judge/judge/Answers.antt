@@ -25,9 +25,6 @@ slice_bounds-card_of-start c = omega (arith, c.line_end-to.ensures.0)
 pub slice_bounds-card_of-end : goal.slice_bounds-card_of-end
 slice_bounds-card_of-end c = omega (arith, c.line_end-to.ensures.1)
 
-pub card_of-c-requires : goal.card_of-c-requires
-card_of-c-requires c = c.requires.0
-
 pub slice_bounds-line_fault-count : goal.slice_bounds-line_fault-count
 slice_bounds-line_fault-count c = omega (arith, c.line_end-to.ensures.0)
 
@@ -39,13 +36,13 @@ slice_bounds-line_fault-end c = omega (arith, c.line_end-to.ensures.1)
 
 pub line_fault-f-requires : goal.line_fault-f-requires
 line_fault-f-requires c =
-    (c.requires.0, c.requires.1.symbolic, c.requires.1.known, place-below _ _ _ _ _ _ c.loop-from.invariant c.loop-from-test.true c.line_end-to.ensures.0 _ c.card_of-c.ensures, c.requires.2)
+    (c.requires.0, c.requires.1.known, place-below _ _ _ _ _ _ c.loop-from.invariant c.loop-from-test.true c.line_end-to.ensures.0 _ c.card_of-c.ensures, c.requires.2)
 
 pub returns-in_default : goal.returns-in_default
-returns-in_default c a = broken _ _ _ _ _ _ c.loop-from.invariant c.loop-from-test.true c.line_end-to.ensures.0 _ c.card_of-c.ensures _ (c.line_fault-f.ensures _) _ c.verdict_of-v.ensures _ _ c.in_default.is a
+returns-in_default c a = broken _ _ _ _ _ _ c.loop-from.invariant c.loop-from-test.true c.line_end-to.ensures.0 _ c.card_of-c.ensures _ (c.line_fault-f.ensures _) _ c.verdict_of-v.ensures _ c.in_default.is a
 
 pub returns-then-is_closing : goal.returns-then-is_closing
-returns-then-is_closing c a = closes _ _ _ _ _ _ c.loop-from.invariant c.loop-from-test.true c.line_end-to.ensures.0 _ c.card_of-c.ensures _ (c.line_fault-f.ensures _) _ c.verdict_of-v.ensures c.in-Clear.is (sym c.is_closing.ensures ∙ c.if-is_closing.true) a
+returns-then-is_closing c a = closes _ _ _ _ _ _ c.loop-from.invariant c.loop-from-test.true c.line_end-to.ensures.0 _ c.card_of-c.ensures _ (c.line_fault-f.ensures _) _ c.verdict_of-v.ensures c.in-Ok.is (sym c.is_closing.ensures ∙ c.if-is_closing.true) a
 
 pub slice_bounds-past-count : goal.slice_bounds-past-count
 slice_bounds-past-count c = omega (arith, c.line_end-to.ensures.0)
@@ -72,8 +69,8 @@ loop-from-smaller c = omega (arith, c.line_end-to.ensures.0, c.line_end-to.ensur
 pub loop-from-preserved : goal.loop-from-preserved
 loop-from-preserved c =
     let text = c.args.text.now in
-    let d = deck_from (cards_of text) (symbols_in c.args.syms.now c.args.n) c.args.table.now in
-    subst (λ (x : Reader). Judging text d c.args.size x (c.line_end-to.result + 1)) (sym c.past-r.ensures) (step _ _ _ _ _ _ c.loop-from.invariant c.loop-from-test.true c.line_end-to.ensures.0 _ c.card_of-c.ensures _ (c.line_fault-f.ensures _) _ c.verdict_of-v.ensures c.in-Clear.is (sym c.is_closing.ensures ∙ c.if-is_closing.false) c.line_end-to.ensures.1)
+    let d = deck_from (cards_of text) (symbols_in c.args.symbols.now.words.now c.args.symbols.now.n) c.args.table.now in
+    subst (λ (x : Reader). Judging text d c.args.size x (c.line_end-to.result + 1)) (sym c.past-r.ensures) (step _ _ _ _ _ _ c.loop-from.invariant c.loop-from-test.true c.line_end-to.ensures.0 _ c.card_of-c.ensures _ (c.line_fault-f.ensures _) _ c.verdict_of-v.ensures c.in-Ok.is (sym c.is_closing.ensures ∙ c.if-is_closing.false) c.line_end-to.ensures.1)
 
 pub returns : goal.returns
 returns c a = all-clear _ _ _ _ _ c.loop-from.invariant c.loop-from-test.false a

@@ -5,15 +5,12 @@ use native.Mathlib.Omega.{arith}
 use mathlib.Core.Path.{sym, ◌∙◌}
 use Rattle.assembler.proofs.shape.is_judged.Goals as goal
 
-pub all_given-requires : goal.all_given-requires
-all_given-requires c = (c.requires.0, c.requires.1)
-
 pub returns-then-not-all_given : goal.returns-then-not-all_given
 unfolding is_judged
 returns-then-not-all_given c cs = sym (and_no _ _ (sym c.all_given.ensures ∙ c.if-not-all_given.true))
 
 pub count_known-requires : goal.count_known-requires
-count_known-requires c = (c.requires.2, omega (arith, c.index-p.ensures, c.requires.3))
+count_known-requires c = omega (arith, c.index-p.ensures, c.requires.2)
 
 pub returns : goal.returns
 unfolding is_judged

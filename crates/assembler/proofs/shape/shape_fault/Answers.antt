@@ -10,7 +10,7 @@ returns-then-not-holds_place c cs = sym (if_no _ _ _ (sym (c.holds_place.ensures
 
 pub place_fault-requires : goal.place_fault-requires
 place_fault-requires c =
-    (c.requires.0, c.requires.1, c.requires.2, c.requires.3 (sym (c.holds_place.ensures c.args.s.now) ∙ c.if-not-holds_place.false), c.requires.4)
+    (c.requires.0, c.requires.1, c.requires.2 (sym (c.holds_place.ensures c.args.s.now) ∙ c.if-not-holds_place.false), c.requires.3)
 
 pub returns : goal.returns
 unfolding shape_fault

@@ -6,13 +6,11 @@ use Rattle.bodies.proofs.Places.{body-zero, body-step, follows-zero, follows-suc
 use lib.ListN.{length, get_or, length-set}
 use mathlib.Core.Path.{◌≡◌, refl, sym, ap, ◌∙◌}
 use native.Mathlib.Omega.{arith}
-use borrow.Author.Rules.{rules}
 use Rattle.bodies.proofs.body.bodies.Goals as goal
 
 pub loop-p-init : goal.loop-p-init
 loop-p-init c =
     let args = c.args in (
-      search rules,
       refl,
       sym (body-zero _),
       follows-zero (body_at args.t.now) args.body.now 0 (omega arith)
@@ -35,19 +33,19 @@ loop-p-preserved c =
     let i = loop.invariant in
     let fits : p + 1 < length body = omega (arith, length-set args.body.now 0 0) in
     let step : v ≡ body_at t (p + 1) =
-    c.after_entry-b.ensures ∙ ap (λ (x : ℕ). body_after (class_in (get_or t (8 + 8 * p) 0) rows) p x) i.2 ∙ sym
+    c.after_entry-b.ensures ∙ ap (λ (x : ℕ). body_after (class_in (get_or t (8 + 8 * p) 0) rows) p x) i.1 ∙ sym
     (body-step t p (omega arith)) in
-    (omega arith, length-set body (p + 1) v ∙ i.1, step, follows-suc (body_at t) body p v fits step i.3)
+    (length-set body (p + 1) v ∙ i.0, step, follows-suc (body_at t) body p v fits step i.2)
 
 pub shape_of-body : goal.shape_of-body
 shape_of-body c =
     let args = c.args in
-    c.loop-p.invariant.1 ∙ length-set args.body.now 0 0
+    c.loop-p.invariant.0 ∙ length-set args.body.now 0 0
 
 pub returns : goal.returns
 returns c =
     let args = c.args in
     record {
-      room = omega (arith, c.loop-p.invariant.1, length-set args.body.now 0 0);
-      found = λ p h. c.loop-p.invariant.3 p (omega arith);
+      room = omega (arith, c.loop-p.invariant.0, length-set args.body.now 0 0);
+      found = λ p h. c.loop-p.invariant.2 p (omega arith);
     }

@@ -14,26 +14,20 @@ loop-i-init c =
     let e : a.k - 0 ≡ a.k = omega arith in
     (omega arith, omega arith, ap (line_at (lines a.text.now)) e)
 
-pub overflow_add-i : goal.overflow_add-i
-overflow_add-i c = omega arith
-
-pub loop-i-smaller : goal.loop-i-smaller
-loop-i-smaller c = omega arith
-
 pub loop-i-preserved : goal.loop-i-preserved
 loop-i-preserved c =
     let a = c.args in
     let l = c.loop-i in
     let b = c.line_behind-at.ensures in
-    let e : a.k - l.i ≡ suc (a.k - (l.i + 1)) = omega arith in (
+    let e : a.k - l._i ≡ suc (a.k - (l._i + 1)) = omega arith in (
       omega arith,
       omega (arith, b, behind-le a.text.now l.at l.invariant.1),
-      rw b (sym (line-next a.text.now l.at (a.k - l.i) (a.k - (l.i + 1)) e) ∙ l.invariant.2),
+      rw b (sym (line-next a.text.now l.at (a.k - l._i) (a.k - (l._i + 1)) e) ∙ l.invariant.2),
     )
 
 pub returns : goal.returns
 returns c =
     let a = c.args in
     let l = c.loop-i in
-    let z : 0 ≡ a.k - l.i = omega arith in
+    let z : 0 ≡ a.k - l._i = omega arith in
     (l.invariant.1, ap (line_at (lines (drop l.at a.text.now))) z ∙ l.invariant.2)

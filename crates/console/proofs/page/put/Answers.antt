@@ -13,27 +13,21 @@ pub loop-i-init : goal.loop-i-init
 loop-i-init c = (omega arith, refl, paste-zero c.args.page.now c.args.at c.args.text.now)
 
 pub bounds-text-i : goal.bounds-text-i
-bounds-text-i c = omega (arith, c.smaller-n.ensures)
+bounds-text-i c = omega (arith, c.min-n.ensures)
 
 pub overflow_add-page : goal.overflow_add-page
-overflow_add-page c = omega (arith, c.smaller-n.ensures, c.less.ensures)
+overflow_add-page c = omega (arith, c.min-n.ensures, c.saturating_sub.ensures)
 
 pub bounds-page-at : goal.bounds-page-at
-bounds-page-at c = omega (arith, c.smaller-n.ensures, c.less.ensures, c.loop-i.invariant.1)
-
-pub overflow_add-i : goal.overflow_add-i
-overflow_add-i c = omega (arith, c.smaller-n.ensures)
-
-pub loop-i-smaller : goal.loop-i-smaller
-loop-i-smaller c = omega arith
+bounds-page-at c = omega (arith, c.min-n.ensures, c.saturating_sub.ensures, c.loop-i.invariant.1)
 
 pub loop-i-preserved : goal.loop-i-preserved
 loop-i-preserved c =
     let v = c.loop-i.invariant in
     let i = c.loop-i.i in
     let a = c.args in
-    let inside : a.at + i < length a.page.now = omega (arith, c.smaller-n.ensures, c.less.ensures) in
-    let more : i < length a.text.now = omega (arith, c.smaller-n.ensures) in (
+    let inside : a.at + i < length a.page.now = omega (arith, c.min-n.ensures, c.saturating_sub.ensures) in
+    let more : i < length a.text.now = omega (arith, c.min-n.ensures) in (
       omega arith,
       simp length-set v.1,
       ap (λ (l : List ℕ). set l (a.at + i) (get_or a.text.now i 0)) v.2
@@ -47,9 +41,9 @@ shape_of-page c = c.loop-i.invariant.1
 pub returns : goal.returns
 returns c =
     let a = c.args in
-    let n : c.smaller-n.result ≡ fitting a.page.now a.at a.text.now =
-    c.smaller-n.ensures.0 ∙ ap (min (length a.text.now)) c.less.ensures in
-    let i : c.loop-i.i ≡ c.smaller-n.result = omega arith in
+    let n : c.min-n.result ≡ fitting a.page.now a.at a.text.now =
+    c.min-n.ensures ∙ ap (min (length a.text.now)) c.saturating_sub.ensures in
+    let i : c.loop-i.i ≡ c.min-n.result = omega arith in
     record {
       behind = ap (λ (k : ℕ). a.at + k) n;
       holds = c.loop-i.invariant.2 ∙ ap (paste a.page.now a.at a.text.now) (i ∙ n);

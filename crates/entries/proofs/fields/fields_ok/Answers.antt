@@ -15,7 +15,7 @@ use Prim.Native.Nat.{ℕ, ◌<◌}
 use Rattle.entries.proofs.fields.fields_ok.Goals as goal
 
 pub loop-p-init : goal.loop-p-init
-loop-p-init c = (omega arith, refl, below-zero _, λ q h. absurd (omega arith))
+loop-p-init c = (refl, below-zero _, λ q h. absurd (omega arith))
 
 pub returns-in_default : goal.returns-in_default
 returns-in_default c =
@@ -23,15 +23,15 @@ returns-in_default c =
     let t = l.args.table.now in
     let p = l.loop-p.p in
     record {
-      verdict = sym (below_fails (entry_ok t) (get_or t 0 0) p (omega arith) (entry-unknown t p (sym c.row_at-found.ensures ∙ c.in_default.is)));
+      verdict = sym (below_fails (entry_ok t) (get_or t 0 0) p (omega arith) (entry-unknown t p (sym c.row_at.ensures ∙ c.in_default.is)));
       classes = λ h. absurd (failed (true-ok _ h));
     }
 
 pub offset_bounds-list-i : goal.offset_bounds-list-i
-offset_bounds-list-i c = omega (arith, row_inside _ (sym c.row_at-found.ensures ∙ c.in-Row.is))
+offset_bounds-list-i c = omega (arith, row_inside _ (sym c.row_at.ensures ∙ c.in-Some.is))
 
 pub bounds-list-i : goal.bounds-list-i
-bounds-list-i c = omega (arith, row_inside _ (sym c.row_at-found.ensures ∙ c.in-Row.is))
+bounds-list-i c = omega (arith, row_inside _ (sym c.row_at.ensures ∙ c.in-Some.is))
 
 pub entry_by-requires : goal.entry_by-requires
 entry_by-requires c = (c.requires.0, omega arith)
@@ -42,8 +42,8 @@ returns-then-not-entry_by c =
     let a = l in
     let t = a.args.table.now in
     let p = l.loop-p.p in
-    let i = c.in-Row.i in
-    let e = sym c.row_at-found.ensures ∙ c.in-Row.is in
+    let i = c.in-Some.i in
+    let e = sym c.row_at.ensures ∙ c.in-Some.is in
     let r = table-row a.args.list.now a.requires.1 i (row_inside _ e) in
     record {
       verdict = sym (below_fails (entry_ok t) (get_or t 0 0) p (omega arith) (entry-cells t p i e (get_or a.args.list.now i []) r ∙ sym c.entry_by.ensures ∙ c.if-not-entry_by.true));
@@ -51,10 +51,10 @@ returns-then-not-entry_by c =
     }
 
 pub offset_bounds-list-i-in-loop-p : goal.offset_bounds-list-i-in-loop-p
-offset_bounds-list-i-in-loop-p c = omega (arith, row_inside _ (sym c.row_at-found.ensures ∙ c.in-Row.is))
+offset_bounds-list-i-in-loop-p c = omega (arith, row_inside _ (sym c.row_at.ensures ∙ c.in-Some.is))
 
 pub bounds-list-i-in-loop-p : goal.bounds-list-i-in-loop-p
-bounds-list-i-in-loop-p c = omega (arith, row_inside _ (sym c.row_at-found.ensures ∙ c.in-Row.is))
+bounds-list-i-in-loop-p c = omega (arith, row_inside _ (sym c.row_at.ensures ∙ c.in-Some.is))
 
 pub loop-p-preserved : goal.loop-p-preserved
 loop-p-preserved c =
@@ -62,16 +62,15 @@ loop-p-preserved c =
     let a = l in
     let t = a.args.table.now in
     let p = l.loop-p.p in
-    let i = c.in-Row.i in
-    let e = sym c.row_at-found.ensures ∙ c.in-Row.is in
+    let i = c.in-Some.i in
+    let e = sym c.row_at.ensures ∙ c.in-Some.is in
     let r = table-row a.args.list.now a.requires.1 i (row_inside _ e) in
     let size : p < get_or t 0 0 = omega arith in (
-      omega arith,
-      length-set l.loop-p.classes p _ ∙ l.loop-p.invariant.1,
-      below_more (entry_ok t) p l.loop-p.invariant.2
+      length-set l.loop-p.classes p _ ∙ l.loop-p.invariant.0,
+      below_more (entry_ok t) p l.loop-p.invariant.1
           (entry-cells t p i e (get_or a.args.list.now i []) r ∙ sym c.entry_by.ensures ∙ c.if-not-entry_by.false),
-      filled_more (λ (x : ℕ). class_code (class_at t x)) l.loop-p.classes p _ (omega (arith, l.loop-p.invariant.1))
-          (c.class_of.ensures ∙ class-cells t p i e (get_or a.args.list.now i []) r size) l.loop-p.invariant.3,
+      filled_more (λ (x : ℕ). class_code (class_at t x)) l.loop-p.classes p _ (omega (arith, l.loop-p.invariant.0))
+          (c.class_of.ensures ∙ class-cells t p i e (get_or a.args.list.now i []) r size) l.loop-p.invariant.2,
     )
 
 pub returns : goal.returns
@@ -81,6 +80,6 @@ returns c =
     let n : l.loop-p.p ≡ get_or t 0 0 = omega arith in
     let m : l.index-n.result ≡ l.loop-p.p = omega arith in
     record {
-      verdict = sym (rw (← n) l.loop-p.invariant.2);
-      classes = λ h. rw (← n, m) (filled-last (λ (x : ℕ). class_code (class_at t x)) l.loop-p.classes l.loop-p.p _ (omega (arith, l.loop-p.invariant.1)) (rw n (class-past t)) l.loop-p.invariant.3);
+      verdict = sym (rw (← n) l.loop-p.invariant.1);
+      classes = λ h. rw (← n, m) (filled-last (λ (x : ℕ). class_code (class_at t x)) l.loop-p.classes l.loop-p.p _ (omega (arith, l.loop-p.invariant.0)) (rw n (class-past t)) l.loop-p.invariant.2);
     }

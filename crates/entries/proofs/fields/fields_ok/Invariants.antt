@@ -5,12 +5,9 @@ use Rattle.ops.specs.Class.{class_code}
 use lib.ListN.{length, get_or}
 use mathlib.Core.Bool.{true}
 use mathlib.Core.Path.{◌≡◌}
-use Prim.Native.Nat.{ℕ, ◌-◌, ◌<◌, ◌≤◌}
+use Prim.Native.Nat.{ℕ, ◌<◌, ◌≤◌}
 use Rattle.entries.proofs.fields.fields_ok.Given as goal
 
 abbrev pub invariant-loop-p : goal.invariant-loop-p
-invariant-loop-p l = (l.p ≤ l.n) × (length l.classes ≡ length l.initial.classes) × (below (entry_ok l.table) l.p ≡ true)
+invariant-loop-p l = (length l.classes ≡ length l.initial.classes) × (below (entry_ok l.table) l.p ≡ true)
     × ((q : ℕ) → q < l.p → get_or l.classes q 0 ≡ class_code (class_at l.table q))
-
-abbrev pub decreases-loop-p : goal.decreases-loop-p
-decreases-loop-p l = l.n - l.p

@@ -1,20 +1,7 @@
-use native.Mathlib.Omega.{arith}
 use borrow.Author.Tests.{lt-ltb, le-ltb}
 use Rattle.base.specs.Test.{if}
 use Rattle.rules.specs.Operand.{fetch_char_of, char_at, char_in}
 use Rattle.exec_core.proofs.chars.fetch_char.Goals as goal
-
-pub index-i-requires : goal.index-i-requires
-index-i-requires c = tt
-
-pub offset_bounds-m-i : goal.offset_bounds-m-i
-offset_bounds-m-i c = omega arith
-
-pub bounds-m-i : goal.bounds-m-i
-bounds-m-i c = omega arith
-
-pub byte_of-requires : goal.byte_of-requires
-byte_of-requires c = tt
 
 pub returns-then-i-m : goal.returns-then-i-m
 unfolding fetch_char_of char_at char_in if

@@ -1,11 +1,7 @@
-use native.Mathlib.Omega.{arith}
 use borrow.Author.Tests.{lt-ltb, le-ltb}
 use Rattle.base.specs.Test.{if}
 use Rattle.rules.specs.Operand.{store_char_of, char_at, with_char}
 use Rattle.exec_core.proofs.chars.store_char.Goals as goal
-
-pub index-i-requires : goal.index-i-requires
-index-i-requires c = tt
 
 pub returns-then-m-i : goal.returns-then-m-i
 unfolding store_char_of char_at with_char if
@@ -14,15 +10,6 @@ returns-then-m-i c = λ way e. rw (c.char_address-a.ensures, le-ltb _ _ (rw c.in
 pub returns-then-i-c : goal.returns-then-i-c
 unfolding store_char_of char_at with_char if
 returns-then-i-c c = λ way e. rw (c.char_address-a.ensures, lt-ltb _ _ (rw c.index-i.ensures at c.if-m-i.false), lt-ltb _ _ (rw c.index-i.ensures at c.if-i-c.true))
-
-pub offset_bounds-m-i : goal.offset_bounds-m-i
-offset_bounds-m-i c = omega arith
-
-pub with_byte-requires : goal.with_byte-requires
-with_byte-requires c = tt
-
-pub offset_bounds-m-i-2 : goal.offset_bounds-m-i-2
-offset_bounds-m-i-2 c = omega arith
 
 pub returns : goal.returns
 unfolding store_char_of char_at with_char if

@@ -4,23 +4,11 @@ use Rattle.base.specs.Test.{if}
 use Rattle.exec_core.specs.Views.{way_of}
 use Rattle.exec_core.proofs.operands.to_second.Goals as goal
 
-pub overflow_add-b : goal.overflow_add-b
-overflow_add-b c = omega arith
-
-pub offset_bounds-t-b : goal.offset_bounds-t-b
-offset_bounds-t-b c = omega arith
-
-pub bounds-t-b : goal.bounds-t-b
-bounds-t-b c = omega arith
-
-pub index-requires : goal.index-requires
-index-requires c = tt
-
 pub overflow_mul-result : goal.overflow_mul-result
-overflow_mul-result c = omega (arith, c.index.ensures, c.shared_slice_known-2-1.given (c.args.b + 6))
+overflow_mul-result c = omega (arith, c.index.ensures, c.type_inv.t (c.args.b + 6))
 
 pub overflow_add-result : goal.overflow_add-result
-overflow_add-result c = omega (arith, c.index.ensures, c.shared_slice_known-2-1.given (c.args.b + 6))
+overflow_add-result c = omega (arith, c.index.ensures, c.type_inv.t (c.args.b + 6))
 
 pub returns : goal.returns
 unfolding way_of if

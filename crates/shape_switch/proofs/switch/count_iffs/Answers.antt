@@ -8,13 +8,15 @@ use Rattle.shape_switch.proofs.switch.count_iffs.Goals as goal
 pub loop-k-init : goal.loop-k-init
 loop-k-init c = (omega arith, iffs-start _ _ _)
 
-pub returns-then-classes-p-ne-IFF : goal.returns-then-classes-p-ne-IFF
+pub returns-then-places-p-ne-IFF : goal.returns-then-places-p-ne-IFF
 unfolding size
-returns-then-classes-p-ne-IFF c = record { all = rw (← c.requires.0.count) (iffs-other c.args.table.now c.args.p c.args.n c.loop-k.k c.loop-k.invariant.1 _ (c.requires.0.classes (c.args.p + c.loop-k.k) (omega arith)) c.if-classes-p-ne-IFF.true); inside = omega arith }
+returns-then-places-p-ne-IFF c = record { all = rw (← c.args.places.now.known.count) (iffs-other c.args.places.now.table.now c.args.p c.args.places.now.n c.loop-k.k c.loop-k.invariant.1 _ (c.args.places.now.known.classes (c.args.p + c.loop-k.k) (omega arith)) c.if-places-p-ne-IFF.true); inside = omega arith }
 
 pub loop-k-preserved : goal.loop-k-preserved
-loop-k-preserved c = (omega arith, iffs-next c.args.table.now c.args.p c.args.n c.loop-k.k c.loop-k.invariant.1 _ (omega arith) (c.requires.0.classes (c.args.p + c.loop-k.k) (omega arith)) c.if-classes-p-ne-IFF.false)
+loop-k-preserved c = (omega arith, iffs-next c.args.places.now.table.now c.args.p c.args.places.now.n c.loop-k.k c.loop-k.invariant.1 _ (omega arith) (c.args.places.now.known.classes (c.args.p + c.loop-k.k) (omega arith)) c.if-places-p-ne-IFF.false)
 
 pub returns : goal.returns
 unfolding size
-returns c = record { all = rw (← c.requires.0.count) (iffs-end c.args.table.now c.args.p c.args.n c.loop-k.k c.loop-k.invariant.1 (omega arith)); inside = omega arith }
+returns c =
+    let e = iffs-end c.args.places.now.table.now c.args.p c.args.places.now.n c.loop-k.k c.loop-k.invariant.1 (omega arith) in
+    record { all = rw (← c.args.places.now.known.count) (omega (arith, e)); inside = omega arith }

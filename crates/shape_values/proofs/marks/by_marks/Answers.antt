@@ -1,7 +1,6 @@
 -- `shape_values::marks::by_marks` meets its contract: the last `left` of the IFFs are passed, and their remainders are marked.
-use Rattle.std.proofs.Common.{◌+◌, ◌-◌, sym, refl, ◌∙◌, arith}
-use Rattle.shape_core.specs.Counted.{fresh_at}
-use Rattle.shape_values.proofs.Values.{marked_start, marked-at, marked-back, distinct-start, distinct-front, distinct-back, distinct-end, claimed}
+use Rattle.std.proofs.Common.{sym, refl, ◌∙◌, arith}
+use Rattle.shape_values.proofs.Values.{marked_start, marked-at, marked-back, distinct-start, distinct-front, distinct-back, distinct-end}
 use Rattle.shape_values.proofs.marks.by_marks.Goals as goal
 
 pub overflow_mul-spare : goal.overflow_mul-spare
@@ -13,14 +12,11 @@ overflow_add-spare c = omega arith
 pub loop-left-init : goal.loop-left-init
 loop-left-init c = (omega arith, refl, distinct-start _ _ _ _ 0, marked_start _ _ _ (omega arith))
 
-pub look-found-requires : goal.look-found-requires
-look-found-requires c = (omega arith, omega arith, marked-at c.args.table.now c.args.limit c.args.p c.args.k c.loop-left.left c.loop-left.marks c.loop-left-test.true c.loop-left.invariant.3)
+pub look-requires : goal.look-requires
+look-requires c = (omega arith, omega arith, marked-at c.args.table.now c.args.limit c.args.p c.args.k c.loop-left.left c.loop-left.marks c.loop-left-test.true c.loop-left.invariant.3)
 
-pub returns-in-Open : goal.returns-in-Open
-returns-in-Open c = tt
-
-pub returns-in-Fails : goal.returns-in-Fails
-returns-in-Fails c = sym (distinct-front c.args.table.now c.args.limit c.args.p c.args.k c.loop-left.left c.loop-left-test.true (claimed (fresh_at c.args.table.now c.args.limit (c.args.p + (c.args.k - c.loop-left.left - 1)) c.loop-left.left) c.in-Fails.is c.look-found.ensures))
+pub returns-then-not-branch : goal.returns-then-not-branch
+returns-then-not-branch c = sym (distinct-front c.args.table.now c.args.limit c.args.p c.args.k c.loop-left.left c.loop-left-test.true (c.in_ok-look.ensures ∙ c.if-not-branch.true))
 
 pub mark-spent-requires : goal.mark-spent-requires
 mark-spent-requires c = (omega arith, omega arith, marked-at c.args.table.now c.args.limit c.args.p c.args.k c.loop-left.left c.loop-left.marks c.loop-left-test.true c.loop-left.invariant.3)
@@ -29,7 +25,7 @@ pub loop-left-preserved : goal.loop-left-preserved
 loop-left-preserved c = (
   omega arith,
   c.mark-spent.auto.marks ∙ c.loop-left.invariant.1,
-  distinct-back c.args.table.now c.args.limit c.args.p c.args.k c.loop-left.left c.loop-left-test.true (claimed (fresh_at c.args.table.now c.args.limit (c.args.p + (c.args.k - c.loop-left.left - 1)) c.loop-left.left) c.in-Holds.is c.look-found.ensures) c.loop-left.invariant.2,
+  distinct-back c.args.table.now c.args.limit c.args.p c.args.k c.loop-left.left c.loop-left-test.true (c.in_ok-look.ensures ∙ c.if-not-branch.false) c.loop-left.invariant.2,
   marked-back c.args.table.now c.args.limit c.args.p c.args.k c.loop-left.left c.mark-spent.new.marks c.loop-left-test.true c.mark-spent.ensures,
 )
 

@@ -14,8 +14,5 @@ returns-then-marks-i-eq0 c =
     sym (fresh-known c.args.table.now c.args.q c.word.ensures c.word-v.ensures c.args.limit c.args.k c.if-word-ne-VALUE_KIND.false c.if-limit-v.false)
     ∙ c.requires.2.clear _ (subst (λ (x : ℕ). get_or c.args.marks.now (x % 1024) 0 ≡ 0) c.index-i.ensures c.if-marks-i-eq0.true)
 
-pub returns-then-unlike : goal.returns-then-unlike
-returns-then-unlike c = sym (fresh-known c.args.table.now c.args.q c.word.ensures c.word-v.ensures c.args.limit c.args.k c.if-word-ne-VALUE_KIND.false c.if-limit-v.false) ∙ sym c.unlike.ensures ∙ c.if-unlike.true
-
 pub returns : goal.returns
-returns c = sym (fresh-known c.args.table.now c.args.q c.word.ensures c.word-v.ensures c.args.limit c.args.k c.if-word-ne-VALUE_KIND.false c.if-limit-v.false) ∙ sym c.unlike.ensures ∙ c.if-unlike.false
+returns c = sym (fresh-known c.args.table.now c.args.q c.word.ensures c.word-v.ensures c.args.limit c.args.k c.if-word-ne-VALUE_KIND.false c.if-limit-v.false) ∙ sym c.unlike.ensures

@@ -9,4 +9,4 @@ pub returns-then-not-below_iff : goal.returns-then-not-below_iff
 returns-then-not-below_iff c = sym (and_no _ _ (sym c.below_iff.ensures ∙ c.if-not-below_iff.true))
 
 pub returns : goal.returns
-returns c = sym (and_yes _ _ (sym c.below_iff.ensures ∙ c.if-not-below_iff.false) ∙ and-true _ ∙ must c.args.table.now c.args.p c.must_reach.result c.target_two-two.ensures c.must_reach.ensures)
+returns c = sym (and_yes _ _ (sym c.below_iff.ensures ∙ c.if-not-below_iff.false) ∙ and-true _ ∙ must c.args.places.now.table.now c.args.p c.must_reach.result c.target_two-two.ensures c.must_reach.ensures)

@@ -9,4 +9,4 @@ pub returns-then-not-below_exit : goal.returns-then-not-below_exit
 returns-then-not-below_exit c = sym (and_no _ _ (sym c.below_exit.ensures ∙ c.if-not-below_exit.true))
 
 pub returns : goal.returns
-returns c = sym (and_yes _ _ (sym c.below_exit.ensures ∙ c.if-not-below_exit.false) ∙ and-true _ ∙ may c.args.table.now c.args.p c.may_reach.result c.target_one-one.ensures c.may_reach.ensures)
+returns c = sym (and_yes _ _ (sym c.below_exit.ensures ∙ c.if-not-below_exit.false) ∙ and-true _ ∙ may c.args.places.now.table.now c.args.p c.may_reach.result c.target_one-one.ensures c.may_reach.ensures)

@@ -5,4 +5,4 @@ use mathlib.Core.Path.{sym, ◌∙◌}
 use Rattle.shapes.proofs.flows.brn_ok.Goals as goal
 
 pub returns : goal.returns
-returns c = sym (and-true _ ∙ must c.args.table.now c.args.p c.must_reach.result c.target_one-one.ensures c.must_reach.ensures)
+returns c = sym (and-true _ ∙ must c.args.places.now.table.now c.args.p c.must_reach.result c.target_one-one.ensures c.must_reach.ensures)

@@ -5,4 +5,4 @@ use mathlib.Core.Path.{sym, ◌∙◌}
 use Rattle.shapes.proofs.flows.goes_ok.Goals as goal
 
 pub returns : goal.returns
-returns c = sym (and-true _ ∙ goes-is c.args.table.now c.args.p c.reaches.result c.reaches.ensures)
+returns c = sym (and-true _ ∙ goes-is c.args.places.now.table.now c.args.p c.reaches.result c.reaches.ensures)

@@ -5,4 +5,4 @@ use mathlib.Core.Path.{sym, ◌∙◌}
 use Rattle.shapes.proofs.flows.jmg_ok.Goals as goal
 
 pub returns : goal.returns
-returns c = sym (and-true _ ∙ global c.args.table.now c.args.p c.global_target.result c.target_one-one.ensures c.global_target.ensures)
+returns c = sym (and-true _ ∙ global c.args.places.now.table.now c.args.p c.global_target.result c.target_one-one.ensures c.global_target.ensures)

@@ -6,7 +6,7 @@ use Rattle.snap_core.proofs.Reading.{words_in-first, read_next, read-last}
 use Rattle.snap_core.proofs.copy.read_words.Goals as goal
 
 pub loop-i-init : goal.loop-i-init
-loop-i-init c = (refl, refl, omega arith, words_in-first _ _ _)
+loop-i-init c = (refl, omega arith, words_in-first _ _ _)
 
 pub overflow_mul-i : goal.overflow_mul-i
 overflow_mul-i c = omega arith
@@ -23,18 +23,12 @@ offset_bounds-ws-i c = omega arith
 pub bounds-ws-i : goal.bounds-ws-i
 bounds-ws-i c = omega arith
 
-pub overflow_add-i : goal.overflow_add-i
-overflow_add-i c = omega arith
-
-pub loop-i-smaller : goal.loop-i-smaller
-loop-i-smaller c = omega arith
-
 pub loop-i-preserved : goal.loop-i-preserved
 loop-i-preserved c = let v = c.loop-i.invariant in
-    (v.0, simp length-set v.1, omega arith, v.3 ∙ read_next _ _ _ _ _ _ c.loop-i-test.true v.1 c.read_word.ensures)
+    (simp length-set v.0, simp length-set (omega arith), v.2 ∙ read_next _ _ _ _ _ _ c.loop-i-test.true v.0 c.read_word.ensures)
 
 pub shape_of-ws : goal.shape_of-ws
 shape_of-ws c = omega arith
 
 pub returns : goal.returns
-returns c = let v = c.loop-i.invariant in sym (v.3 ∙ read-last _ _ _ _ _ c.loop-i-test.false v.1)
+returns c = let v = c.loop-i.invariant in sym (v.2 ∙ read-last _ _ _ _ _ c.loop-i-test.false v.0)

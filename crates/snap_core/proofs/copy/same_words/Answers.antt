@@ -5,7 +5,7 @@ use Rattle.snap_core.proofs.Reading.{same_first, same_next, same-other, same-las
 use Rattle.snap_core.proofs.copy.same_words.Goals as goal
 
 pub loop-i-init : goal.loop-i-init
-loop-i-init c = (refl, omega arith, same_first _ _ _ _)
+loop-i-init c = (omega arith, same_first _ _ _ _)
 
 pub overflow_mul-i : goal.overflow_mul-i
 overflow_mul-i c = omega arith
@@ -22,18 +22,12 @@ offset_bounds-ws-i c = omega arith
 pub bounds-ws-i : goal.bounds-ws-i
 bounds-ws-i c = omega arith
 
-pub returns-then-read_word-ws : goal.returns-then-read_word-ws
-returns-then-read_word-ws c = let v = c.loop-i.invariant in sym (v.2 ∙ same-other _ _ _ _ _ c.loop-i-test.true (sym v.0) (rw c.read_word.ensures at c.if-read_word-ws.true))
-
-pub overflow_add-i : goal.overflow_add-i
-overflow_add-i c = omega arith
-
-pub loop-i-smaller : goal.loop-i-smaller
-loop-i-smaller c = omega arith
+pub returns-then-read_word-w : goal.returns-then-read_word-w
+returns-then-read_word-w c = let v = c.loop-i.invariant in sym (v.1 ∙ same-other _ _ _ _ _ c.loop-i-test.true refl (rw c.read_word.ensures at c.if-read_word-w.true))
 
 pub loop-i-preserved : goal.loop-i-preserved
 loop-i-preserved c = let v = c.loop-i.invariant in
-    (v.0, omega arith, v.2 ∙ same_next _ _ _ _ _ c.loop-i-test.true (sym v.0) (rw c.read_word.ensures at c.if-read_word-ws.false))
+    (omega arith, v.1 ∙ same_next _ _ _ _ _ c.loop-i-test.true refl (rw c.read_word.ensures at c.if-read_word-w.false))
 
 pub returns : goal.returns
-returns c = let v = c.loop-i.invariant in sym (v.2 ∙ same-last _ _ _ _ _ c.loop-i-test.false (sym v.0))
+returns c = let v = c.loop-i.invariant in sym (v.1 ∙ same-last _ _ _ _ _ c.loop-i-test.false refl)

@@ -6,7 +6,4 @@ use Rattle.rules.specs.Snapshot.{words_in}
 use Rattle.snap_core.proofs.copy.same_words.Given as goal
 
 abbrev pub invariant-loop-i : goal.invariant-loop-i
-invariant-loop-i l = (l.n ≡ length l.ws) × (l.i ≤ l.n) × (same (words_in l.file l.at l.n) l.ws ≡ same (words_in l.file (l.at + 4 * l.i) (l.n - l.i)) (drop l.i l.ws))
-
-abbrev pub decreases-loop-i : goal.decreases-loop-i
-decreases-loop-i l = l.n - l.i
+invariant-loop-i l = (l.i ≤ length l.ws) × (same (words_in l.file l.at (length l.ws)) l.ws ≡ same (words_in l.file (l.at + 4 * l.i) (length l.ws - l.i)) (drop l.i l.ws))

@@ -5,7 +5,7 @@ use Rattle.snap_core.proofs.Puts.{put_first, put_next, put_last}
 use Rattle.snap_core.proofs.copy.write_words.Goals as goal
 
 pub loop-i-init : goal.loop-i-init
-loop-i-init c = (refl, refl, omega arith, sym (put_first _ _ _))
+loop-i-init c = (refl, omega arith, sym (put_first _ _ _))
 
 pub overflow_mul-i : goal.overflow_mul-i
 overflow_mul-i c = omega arith
@@ -22,18 +22,12 @@ bounds-ws-i c = omega arith
 pub write_word-requires : goal.write_word-requires
 write_word-requires c = omega arith
 
-pub overflow_add-i : goal.overflow_add-i
-overflow_add-i c = omega arith
-
-pub loop-i-smaller : goal.loop-i-smaller
-loop-i-smaller c = omega arith
-
 pub loop-i-preserved : goal.loop-i-preserved
 loop-i-preserved c = let v = c.loop-i.invariant in
-    (v.0, c.write_word.auto.file ∙ v.1, omega arith, v.3 ∙ put_next _ _ _ _ (omega arith) (omega arith) ∙ rw c.write_word.ensures)
+    (c.write_word.auto.file ∙ v.0, omega arith, v.2 ∙ put_next _ _ _ _ (omega arith) (omega arith) ∙ rw c.write_word.ensures)
 
 pub shape_of-file : goal.shape_of-file
 shape_of-file c = omega arith
 
 pub returns : goal.returns
-returns c = let v = c.loop-i.invariant in sym (v.3 ∙ put_last _ _ _ _ (omega arith))
+returns c = let v = c.loop-i.invariant in sym (v.2 ∙ put_last _ _ _ _ (omega arith))

@@ -1,4 +1,3 @@
-use Prim.Native.Nat.{◌-◌, ◌≤◌}
 use mathlib.Core.Path.{◌≡◌}
 use Rattle.rules.specs.Table.{fresh_count}
 use Rattle.base.specs.Test.{Ok}
@@ -6,7 +5,4 @@ use Rattle.rules.specs.Snapshot.{fresh_hidden, words_in}
 use Rattle.snap_core.proofs.fresh.fresh_hidden.Given as goal
 
 abbrev pub invariant-loop-i : goal.invariant-loop-i
-invariant-loop-i l = (l.f ≡ fresh_count l.table) × (l.i ≤ l.f) × Ok (fresh_hidden l.table (words_in l.file l.at l.m) l.i)
-
-abbrev pub decreases-loop-i : goal.decreases-loop-i
-decreases-loop-i l = l.f - l.i
+invariant-loop-i l = (l.i-end ≡ fresh_count l.table) × Ok (fresh_hidden l.table (words_in l.file l.at l.m) l.i)

@@ -1,5 +1,5 @@
 -- `snapshot::waking::restore_checked` meets its contract: each refusal in its place, then memory is copied and its fresh words are supplied.
-use mathlib.Core.Path.{◌≡◌, sym, ap, ◌∙◌}
+use mathlib.Core.Path.{◌≡◌, refl, sym, ap, ◌∙◌}
 use native.Mathlib.Omega.{arith}
 use lib.ListN.{length}
 use Rattle.base.proofs.Bool.{test-true, true-ok}
@@ -10,25 +10,25 @@ use Rattle.snapshot.proofs.Wakings.{frozen-few, frozen-own, refuses-frozen, refu
 use Rattle.snapshot.proofs.waking.restore_checked.Goals as goal
 
 pub returns-then-not-trailer_ok : goal.returns-then-not-trailer_ok
-returns-then-not-trailer_ok c = refuses-trailer _ _ _ _ _ _ (test-true _ c.requires) (sym c.trailer_ok.ensures ∙ c.if-not-trailer_ok.true) c.refused.ensures
+returns-then-not-trailer_ok c = refuses-trailer _ _ _ _ _ _ (test-true _ c.requires) (sym c.trailer_ok.ensures ∙ c.if-not-trailer_ok.true) refl
 
 pub same_program-requires : goal.same_program-requires
 same_program-requires c = (c.requires, true-ok _ (sym c.trailer_ok.ensures ∙ c.if-not-trailer_ok.false))
 
 pub returns-then-not-same_program : goal.returns-then-not-same_program
-returns-then-not-same_program c = refuses-program _ _ _ _ _ _ (test-true _ c.requires) (sym c.trailer_ok.ensures ∙ c.if-not-trailer_ok.false) (sym c.same_program.ensures ∙ c.if-not-same_program.true) c.refused-then-not-same_program.ensures
+returns-then-not-same_program c = refuses-program _ _ _ _ _ _ (test-true _ c.requires) (sym c.trailer_ok.ensures ∙ c.if-not-trailer_ok.false) (sym c.same_program.ensures ∙ c.if-not-same_program.true) refl
 
 pub frozen_ok-requires : goal.frozen_ok-requires
 frozen_ok-requires c = (c.requires, true-ok _ (sym c.trailer_ok.ensures ∙ c.if-not-trailer_ok.false))
 
 pub returns-then-not-frozen_ok : goal.returns-then-not-frozen_ok
-returns-then-not-frozen_ok c = refuses-frozen _ _ _ _ _ _ (test-true _ c.requires) (sym c.trailer_ok.ensures ∙ c.if-not-trailer_ok.false) (sym c.same_program.ensures ∙ c.if-not-same_program.false) (sym c.frozen_ok.ensures ∙ c.if-not-frozen_ok.true) c.refused-then-not-frozen_ok.ensures
+returns-then-not-frozen_ok c = refuses-frozen _ _ _ _ _ _ (test-true _ c.requires) (sym c.trailer_ok.ensures ∙ c.if-not-trailer_ok.false) (sym c.same_program.ensures ∙ c.if-not-same_program.false) (sym c.frozen_ok.ensures ∙ c.if-not-frozen_ok.true) refl
 
 pub fresh_count-requires : goal.fresh_count-requires
 fresh_count-requires c = c.requires
 
 pub returns-then-fresh-fresh_count : goal.returns-then-fresh-fresh_count
-returns-then-fresh-fresh_count c = refuses-supply _ _ _ _ _ _ (test-true _ c.requires) (sym c.trailer_ok.ensures ∙ c.if-not-trailer_ok.false) (sym c.same_program.ensures ∙ c.if-not-same_program.false) (sym c.frozen_ok.ensures ∙ c.if-not-frozen_ok.false) (rw c.fresh_count.ensures at c.if-fresh-fresh_count.true) c.refused-then-fresh-fresh_count.ensures
+returns-then-fresh-fresh_count c = refuses-supply _ _ _ _ _ _ (test-true _ c.requires) (sym c.trailer_ok.ensures ∙ c.if-not-trailer_ok.false) (sym c.same_program.ensures ∙ c.if-not-same_program.false) (sym c.frozen_ok.ensures ∙ c.if-not-frozen_ok.false) (rw c.fresh_count.ensures at c.if-fresh-fresh_count.true) refl
 
 pub trailer_word-requires : goal.trailer_word-requires
 trailer_word-requires c =
@@ -36,7 +36,7 @@ trailer_word-requires c =
     (omega arith, omega arith)
 
 pub returns-then-memory-index : goal.returns-then-memory-index
-returns-then-memory-index c = refuses-lending _ _ _ _ _ _ (test-true _ c.requires) (sym c.trailer_ok.ensures ∙ c.if-not-trailer_ok.false) (sym c.same_program.ensures ∙ c.if-not-same_program.false) (sym c.frozen_ok.ensures ∙ c.if-not-frozen_ok.false) (c.if-fresh-fresh_count.false ∙ c.fresh_count.ensures) (rw (c.index.ensures, c.trailer_word.ensures) at c.if-memory-index.true) c.refused-then-memory-index.ensures
+returns-then-memory-index c = refuses-lending _ _ _ _ _ _ (test-true _ c.requires) (sym c.trailer_ok.ensures ∙ c.if-not-trailer_ok.false) (sym c.same_program.ensures ∙ c.if-not-same_program.false) (sym c.frozen_ok.ensures ∙ c.if-not-frozen_ok.false) (c.if-fresh-fresh_count.false ∙ c.fresh_count.ensures) (rw (c.index.ensures, c.trailer_word.ensures) at c.if-memory-index.true) refl
 
 pub memory_from-requires : goal.memory_from-requires
 memory_from-requires c = true-ok _ (sym c.trailer_ok.ensures ∙ c.if-not-trailer_ok.false)

@@ -11,14 +11,14 @@ returns-then-t-p-ne-JSR c =
     let args = c.args in
     wait-other args.t.now args.p (omega arith) c.if-t-p-ne-JSR.true
 
-pub returns-then-t-p-ne-EXTERNAL_KIND : goal.returns-then-t-p-ne-EXTERNAL_KIND
-returns-then-t-p-ne-EXTERNAL_KIND c =
+pub returns-then-kind-ne-EXTERNAL_KIND : goal.returns-then-kind-ne-EXTERNAL_KIND
+returns-then-kind-ne-EXTERNAL_KIND c =
     let args = c.args in
-    wait-kind args.t.now args.p c.if-t-p-ne-EXTERNAL_KIND.true
+    wait-kind args.t.now args.p c.if-kind-ne-EXTERNAL_KIND.true
 
 pub returns : goal.returns
 returns c =
     let args = c.args in
     let if2 = c.if-t-p-ne-JSR in
-    let if3 = c.if-t-p-ne-EXTERNAL_KIND in
+    let if3 = c.if-kind-ne-EXTERNAL_KIND in
     wait-named args.t.now args.p (omega arith) if2.false if3.false

@@ -12,18 +12,18 @@ use borrow.Author.Rules.{rules}
 use Rattle.state_check.proofs.chain.chained.Goals.{then-b-ne0+else-beneath-b, else-b-ne0}
 use Rattle.state_check.proofs.chain.chained.Goals as goal
 
-pub loop-i-init : goal.loop-i-init
-loop-i-init c = (search rules, refl)
+pub loop-link-init : goal.loop-link-init
+loop-link-init c = (search rules, refl)
 
 pub returns-then-to-eq0 : goal.returns-then-to-eq0
 returns-then-to-eq0 c =
     let args = c.args in
-    let loop = c.loop-i in
+    let loop = c.loop-link in
     let index = c.index-j in
     let t = args.t.now in
     let l = args.links.now in
-    sym (chain-over t 0 (take args.k l) ∙ loop.invariant.1 ∙ chain-uncalled t loop.beneath args.k loop.i
-    index.result c.callee_of-to.result l (omega arith) (omega arith) index.ensures
+    sym (chain-over t 0 (take args.k l) ∙ loop.invariant.1 ∙ chain-uncalled t loop.beneath args.k loop.link-index
+    index.result c.callee_of-to.result l (omega arith) index.ensures
     c.callee_of-to.ensures c.if-to-eq0.true)
 
 pub offset_bounds-body-j : goal.offset_bounds-body-j
@@ -51,7 +51,7 @@ returns-then-beneath-b c =
     let if1 = c.if-to-eq0 in
     let index2 = c.index-b in
     let pre = c.requires in
-    let loop = c.loop-i in
+    let loop = c.loop-link in
     let t = args.t.now in
     let l = args.links.now in
     let inside : index.result < size t = calls-inside args.t.now index.result Callee-of.result
@@ -59,27 +59,28 @@ returns-then-beneath-b c =
     let body : index2.result ≡ body_at t index.result = index2.ensures ∙ pre.1.found index.result (omega arith) in
     sym
     (chain-over t 0 (take args.k l) ∙ loop.invariant.1
-    ∙ chain-unheld t loop.beneath args.k loop.i index.result Callee-of.result l (omega arith) (omega arith)
+    ∙ chain-unheld t loop.beneath args.k loop.link-index index.result Callee-of.result l (omega arith)
     index.ensures Callee-of.ensures index2.result body c.if-b-ne0.true c.if-beneath-b.true)
 
-pub loop-i-preserved : goal.loop-i-preserved
-loop-i-preserved c =
+pub loop-link-preserved : goal.loop-link-preserved
+loop-link-preserved c =
     let args = c.args in
     let index = c.index-j in
     let Callee-of = c.callee_of-to in
     let if1 = c.if-to-eq0 in
     let pre = c.requires in
-    let loop = c.loop-i in
+    let loop = c.loop-link in
     let t = args.t.now in
     let l = args.links.now in
     let inside : index.result < size t = calls-inside args.t.now index.result Callee-of.result
     Callee-of.ensures if1.false in
     let b = c.index-b.result in
     let body : b ≡ body_at t index.result = c.index-b.ensures ∙ pre.1.found index.result (omega arith) in
-    let held : (b ≡ 0) ⊎ (loop.beneath ≡ b) = elim c.if-b-ne0.branch [ then-b-ne0+else-beneath-b w ↦ inr w.if-beneath-b.false | else-b-ne0 w ↦ inl w.if-b-ne0.false ] in (
+    let held : (b ≡ 0) ⊎ (loop.beneath ≡ b) = elim c.if-b-ne0.branch [ then-b-ne0+else-beneath-b w ↦ inr w.if-beneath-b.false | else-b-ne0 w ↦ inl w.if-b-ne0.false ] in
+    let opens : c.if-b-ne0.beneath ≡ Callee-of.result = elim c.if-b-ne0.branch [ then-b-ne0+else-beneath-b w ↦ w.beneath-is | else-b-ne0 w ↦ w.beneath-is ] in (
       omega arith,
-      loop.invariant.1 ∙ chain-on t loop.beneath args.k loop.i index.result Callee-of.result l
-          (omega arith) (omega arith) index.ensures Callee-of.ensures if1.false b body held,
+      rw opens (loop.invariant.1 ∙ chain-on t loop.beneath args.k loop.link-index index.result Callee-of.result l
+          (omega arith) index.ensures Callee-of.ensures if1.false b body held),
     )
 
 pub returns : goal.returns
@@ -87,5 +88,5 @@ returns c =
     let args = c.args in
     let t = args.t.now in
     let l = args.links.now in
-    sym (chain-over t 0 (take args.k l) ∙ c.loop-i.invariant.1 ∙ chain-done t c.loop-i.beneath args.k
-    c.loop-i.i l (omega arith) (omega arith))
+    sym (chain-over t 0 (take args.k l) ∙ c.loop-link.invariant.1 ∙ chain-done t c.loop-link.beneath args.k
+    c.loop-link.link-index l (omega arith))

@@ -1,9 +1,0 @@
--- `tool_command::has_files` is safe and ends: each round is one file.
-use Rattle.std.proofs.Common.{◌-◌, ◌≤◌}
-use Rattle.tool_command.proofs.has_files.Given as goal
-
-abbrev pub invariant-loop-i : goal.invariant-loop-i
-invariant-loop-i g l = l.i ≤ 9
-
-abbrev pub decreases-loop-i : goal.decreases-loop-i
-decreases-loop-i g l = 9 - l.i
