@@ -5,8 +5,8 @@
 
 ghost use Rattle.resuming.specs.Answers.{Runs};
 
-use admission::check_state;
-use resuming::answers::{Ran, not_admitted, refused};
+use admission::{Refusal, check_state};
+use resuming::answers::{Answer, Ran, refused};
 use running::run_passed;
 use states::State;
 
@@ -20,6 +20,7 @@ pub fn run(table: &[u32], memory: &mut [u32], state: State, budget: u32) -> Ran
 {
     match check_state(table, memory.len(), state) {
         Ok(()) => run_passed(table, memory, state, budget),
-        Err(e) => refused(not_admitted(e), state),
+        Err(Refusal::BadTable) => refused(Answer::BadTable, state),
+        Err(Refusal::BadState) => refused(Answer::BadState, state),
     }
 }

@@ -1,10 +1,8 @@
 // The answers of a run and of a resume, each with its number [S Numbers the host sees].
 ghost use Rattle.std.specs.Prelude.{◌≡◌};
-ghost use Rattle.admission.specs.Admit.{refusal_of};
 ghost use Rattle.resuming.specs.Answers.{report_number, outcome_by, refusing, report_of};
 ghost use Rattle.resuming.specs.Answers as Report;
 
-use admission::Refusal;
 use exec_core::Answer as Code;
 use states::State;
 
@@ -52,16 +50,6 @@ pub fn number(answer: Answer) -> u32
         Answer::BadState => 31,
         Answer::OverBudget => 32,
         Answer::NotResumable => 33,
-    }
-}
-
-// The answer of a call that the checks refuse.
-pub fn not_admitted(refusal: Refusal) -> Answer
-    ensures { report_of result ≡ Report.refuses (refusal_of refusal) }
-{
-    match refusal {
-        Refusal::BadTable => Answer::BadTable,
-        Refusal::BadState => Answer::BadState,
     }
 }
 
