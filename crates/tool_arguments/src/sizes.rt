@@ -9,6 +9,9 @@ const SIZE: usize = 0;
 
 // Whether the first file, which was read to n bytes, can be a table, which has most bytes; what cannot be is told.
 pub fn is_table<E: Env>(rt: &E, n: usize, most: usize) -> bool {
+    if n == 0 {
+        return false;
+    }
     if most < n {
         tell(rt, FIRST, b"the file is longer than any table");
         return false;
@@ -30,7 +33,7 @@ pub fn is_snapshot<E: Env>(rt: &E, n: usize, most: usize) -> bool {
         tell(rt, SECOND, b"the file is longer than any snapshot");
         return false;
     }
-    true
+    0 < n
 }
 
 // How many operations a table has.
