@@ -73,8 +73,8 @@ enum {
 };
 
 /*
- * Bytes of stack that are enough for a call of torzimlak_assemble, and of each other function. The code itself takes at most 1,080,344
- * bytes, torzimlak_run 27,080, torzimlak_resume 20,840, each other function under 19,000; the rest is for memcpy and memset, of which a
+ * Bytes of stack that are enough for a call of torzimlak_assemble, and of each other function. The code itself takes at most 1,080,264
+ * bytes, torzimlak_run 27,080, torzimlak_resume 20,808, each other function under 19,000; the rest is for memcpy and memset, of which a
  * loader that binds them at their first call takes some thousands.
  */
 enum {

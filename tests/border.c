@@ -211,9 +211,9 @@ static const struct {
     int leaves_state;
     size_t most;
 } calls[] = {
-    {"assemble", call_assemble, 0, 0, 1080344}, {"check_table", call_check_table, 0, 0, OTHERS}, {"warm_start", call_warm_start, 0, 1, OTHERS}, {"start", call_start, 0, 1, OTHERS},
+    {"assemble", call_assemble, 0, 0, 1080264}, {"check_table", call_check_table, 0, 0, OTHERS}, {"warm_start", call_warm_start, 0, 1, OTHERS}, {"start", call_start, 0, 1, OTHERS},
     {"check_state", call_check_state, 0, 0, OTHERS}, {"run", call_run, WAITING, 1, 27080}, {"write", call_write, 0, 0, OTHERS},
-    {"restore", call_restore, 0, 1, OTHERS}, {"resume", call_resume, 0, 1, 20840},
+    {"restore", call_restore, 0, 1, OTHERS}, {"resume", call_resume, 0, 1, 20808},
 };
 
 /* Cards of a program that translates a long string and waits, with a long switch whose values share one remainder by 1,024. */

@@ -1,20 +1,23 @@
 // The assembler: cards become a table, or the text is refused and no lent word changes [S Cards] [S The table].
 #![tactic(auto)]
 
-ghost use Rattle.std.specs.Prelude.{◌≡◌, ◌≤◌, length};
+ghost use Rattle.std.specs.Prelude.{◌≡◌, map, ◌≤◌, length};
+ghost use Rattle.ops.specs.Ops.{rows, cells_of};
 ghost use Rattle.language.specs.Text.{max_bytes};
 ghost use Rattle.language.specs.Fault.{deck_of};
 ghost use Rattle.language.specs.Answer.{answer_of, left_of};
 ghost use Rattle.assembler.specs.Answers.{Answers, answer_view, line_of, answer_number};
+ghost use Rattle.assembler.specs.Judges.{Prepared};
 ghost use Rattle.assembler.specs.declared.Refusal.TheVariants.{Faulty};
 
 use crate::finish::finish;
-use asm_answers::verdict::Fault;
-use asm_collect::collect;
+pub use asm_answers::verdict::Fault;
+use asm_collect::{Collected, collect};
 use asm_draft::deck::fill;
 use asm_symbols::list::SymbolList;
 use op_lookup::numbers::number_index;
 use ops::constants::Machine;
+use ops::table::Operations;
 use table_layout::{ENTRY, HEADER};
 
 pub mod finish;
@@ -80,13 +83,31 @@ pub fn line(a: Result<u32, Refusal>) -> u32
     }
 }
 
+// The answer, given what is collected and the draft of the table. The index of the rows is made here, since nothing before asks it: so it lies on the stack
+// where what was collected by lay.
+fn finish_indexed(
+    list: &Operations,
+    text: &[u8],
+    syms: &[u64],
+    c: &Collected,
+    draft: &[u32],
+    classes: &mut [u32],
+    body: &mut [u32],
+    table: &mut [u32],
+) -> Result<u32, Refusal>
+    requires { (list.now ≡ map cells_of rows) × Prepared text.now syms.now draft.now c.now × (16385 ≤ length classes.old) × (16385 ≤ length body.old) }
+    ensures { Answers (deck_of text.now) result table.old table.new }
+{
+    let numbers = number_index(list);
+    finish(list, &numbers, text, syms, c, draft, classes, body, table)
+}
+
 // A text that is not too long.
 fn assemble_short(cards: &[u8], table: &mut [u32]) -> Result<u32, Refusal>
     requires { length cards.now ≤ max_bytes }
     ensures { Answers (deck_of cards.now) result table.old table.new }
 {
     let list = op_table::rows();
-    let numbers = number_index(&list);
     let mut syms = [0u64; SYMBOL_WORDS];
     let c = collect(&list, cards, &mut syms);
     let mut draft = [0u32; TABLE_WORDS];
@@ -112,9 +133,8 @@ fn assemble_short(cards: &[u8], table: &mut [u32]) -> Result<u32, Refusal>
     );
     let mut classes = [0u32; PLACES];
     let mut body = [0u32; PLACES];
-    finish(
+    finish_indexed(
         &list,
-        &numbers,
         cards,
         &syms,
         &c,

@@ -24,25 +24,16 @@ fn is_judged(
     c: Card,
     s: &[u8],
     symbols: &SymbolList<'_>,
-    table: &[u32],
-    classes: &[u32],
-    body: &[u32],
-    size: usize,
+    places: &Places<'_>,
 ) -> bool
-    requires { (list.now ≡ map cells_of rows) × Known table.now classes.now body.now size × (c.spot.place < size) }
-    ensures { OfDeck (λ d. is_judged d (card_view c s.now)) (symbols_in symbols.now.words.now symbols.now.n) table.now result }
+    requires { (list.now ≡ map cells_of rows) × (c.spot.place < places.now.n) }
+    ensures { OfDeck (λ d. is_judged d (card_view c s.now)) (symbols_in symbols.now.words.now symbols.now.n) places.now.table.now result }
 {
     if !all_given(list, c, s, symbols) {
         return false;
     }
     let p = index(c.spot.place);
-    let places = Places {
-        table,
-        classes,
-        body,
-        n: size,
-    };
-    count_known(&places, p)
+    count_known(places, p)
 }
 
 // The fault of the card's place.
@@ -67,7 +58,7 @@ fn place_fault(
         body,
         n: size,
     };
-    if is_judged(list, c, s, symbols, table, classes, body, size) {
+    if is_judged(list, c, s, symbols, &places) {
         return fault_at(&places, list, numbers, p);
     }
     let name = first_name(list, c, s);

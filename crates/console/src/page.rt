@@ -3,14 +3,11 @@ ghost use Rattle.std.specs.Prelude.{◌≡◌, ◌≤◌, take};
 ghost use Rattle.console.specs.Page.{Puts};
 
 use crate::stream::fail;
-use io::{large_buffer, write_all};
+use io::write_all;
 use std::fmt::{self, Write};
 
 // The number of the stream of errors.
 pub const STDERR_FILENO: i32 = 2;
-
-// The bytes that a page holds.
-const ROOM: usize = 65536;
 
 // The text at byte at on, as much of it as fits. Answers the byte behind it.
 pub fn put(page: &mut [u8], at: usize, text: &[u8]) -> usize
@@ -23,18 +20,21 @@ pub fn put(page: &mut [u8], at: usize, text: &[u8]) -> usize
     at + n
 }
 
-// The bytes that were put stand at the front.
+// A page that holds up to ROOM bytes. Those that were put stand at the front.
 #[derive(Drop)]
-pub struct Page {
+pub struct Sheet<const ROOM: usize> {
     bytes: [u8; ROOM],
     len: usize,
-    ghost within: { len ≤ 65536 },
+    ghost within: { len ≤ ROOM },
 }
 
-impl Page {
-    pub fn new() -> Page {
-        Page {
-            bytes: large_buffer(),
+// A page for a message of any form.
+pub type Page = Sheet<65536>;
+
+impl<const ROOM: usize> Sheet<ROOM> {
+    pub fn new() -> Sheet<ROOM> {
+        Sheet {
+            bytes: [0; ROOM],
             len: 0,
         }
     }
@@ -67,9 +67,22 @@ impl Page {
 }
 
 // What is written by `write!` is put, as much of it as fits.
-impl Write for Page {
+impl<const ROOM: usize> Write for Sheet<ROOM> {
     fn write_str(&mut self, s: &str) -> fmt::Result {
         self.put(s.as_bytes());
+        Ok(())
+    }
+}
+
+// So are bytes; none are written where none fits.
+impl<const ROOM: usize> std::io::Write for Sheet<ROOM> {
+    fn write(&mut self, buf: &[u8]) -> std::io::Result<usize> {
+        let before = self.len;
+        self.put(buf);
+        Ok(self.len - before)
+    }
+
+    fn flush(&mut self) -> std::io::Result<()> {
         Ok(())
     }
 }

@@ -4,6 +4,7 @@
 use console::lines::line_of;
 use console::page::Page;
 use console::word::word_in;
+use std::io::Write;
 use tool_forms::put_form;
 
 // The refusal of another count of fresh words than the program's.
@@ -37,8 +38,8 @@ fn words_in(line: &[u8]) -> &[u8] {
     &line[FRONT..]
 }
 
-fn put_found(
-    page: &mut Page,
+fn put_found<W: Write>(
+    page: &mut W,
     form: &[u8],
     text: &[u8],
     answers: &[u8],
@@ -50,7 +51,7 @@ fn put_found(
 }
 
 // A message by its form, with the answer's words as its other text: why something was refused, or how a run ended.
-pub fn put_answer(page: &mut Page, form: &[u8], text: &[u8], number: u32, numbers: &[u64]) {
+pub fn put_answer<W: Write>(page: &mut W, form: &[u8], text: &[u8], number: u32, numbers: &[u64]) {
     put_found(
         page,
         form,

@@ -3,39 +3,42 @@
 #![tactic(auto)]
 
 use console::page::Page;
-use std::fmt::Write;
+use std::io::Write;
 
-// A number in decimal digits behind what is on the page.
-fn put_number(page: &mut Page, n: u64) {
+// A number in decimal digits behind what was written.
+fn put_number<W: Write>(page: &mut W, n: u64) {
     let _ = write!(page, "{n}");
 }
 
-// The message behind what is on the page. Where the form has more `#` than there are numbers, it tells 0.
-pub fn put_form(page: &mut Page, form: &[u8], text: &[u8], other: &[u8], numbers: &[u64]) {
+// Bytes behind what was written.
+fn put_bytes<W: Write>(page: &mut W, text: &[u8]) {
+    let _ = page.write_all(text);
+}
+
+// The message behind what was written, on a page or on bytes of any length (a `Cursor` over them), as much of it as fits. Where the form has more `#`
+// than there are numbers, it tells 0.
+pub fn put_form<W: Write>(page: &mut W, form: &[u8], text: &[u8], other: &[u8], numbers: &[u64]) {
     let mut left = numbers.iter();
     for b in form {
         match *b {
-            b'%' => page.put(text),
-            b'$' => page.put(other),
+            b'%' => put_bytes(page, text),
+            b'$' => put_bytes(page, other),
             b'#' => put_number(page, left.next().copied().unwrap_or(0)),
-            _ => page.put(&[*b]),
+            _ => put_bytes(page, &[*b]),
         }
     }
 }
 
-// The page with a message alone.
-fn page_of(form: &[u8], text: &[u8], other: &[u8], numbers: &[u64]) -> Page {
-    let mut page = Page::new();
-    put_form(&mut page, form, text, other, numbers);
-    page
-}
-
 // The message on standard output.
 pub fn say<P: Print>(rt: &P, form: &[u8], text: &[u8], other: &[u8], numbers: &[u64]) {
-    page_of(form, text, other, numbers).show(rt);
+    let mut page = Page::new();
+    put_form(&mut page, form, text, other, numbers);
+    page.show(rt);
 }
 
 // The message on standard error.
 pub fn warn(form: &[u8], text: &[u8], other: &[u8], numbers: &[u64]) {
-    page_of(form, text, other, numbers).complain();
+    let mut page = Page::new();
+    put_form(&mut page, form, text, other, numbers);
+    page.complain();
 }

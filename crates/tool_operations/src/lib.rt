@@ -4,11 +4,14 @@
 ghost use Rattle.std.specs.Prelude.{◌<◌};
 
 use console::lines::line_of;
-use console::page::Page;
+use console::page::Sheet;
 use op_table::{find_letters, rows};
 use ops::cells::*;
 use ops::table::{CELLS, CLASS, ITEM, LETTERS, ONE, SECTION, THREE, TWO};
 use std::fmt::Write;
+
+// The rows' lines: all 106 have 1,743 bytes.
+type Lines = Sheet<4096>;
 
 // What stands for the text of ERR and ERB, past the codes of the formats.
 const TEXT: u8 = 27;
@@ -18,7 +21,7 @@ const OPERANDS: usize = 5;
 
 // An operand, behind a comma if it is not the first: line k of the text has the name of the format of code k, and nothing for NONE. A format that
 // may be left out, takes no (X)+ or counts to 32 has the name of the other. Answers whether one is there now.
-fn put_operand(page: &mut Page, is_behind: bool, code: u8) -> bool {
+fn put_operand(page: &mut Lines, is_behind: bool, code: u8) -> bool {
     let name = line_of(
         b"
 OPV
@@ -87,7 +90,7 @@ fn codes_of(row: &[u8; CELLS]) -> [u8; OPERANDS] {
 }
 
 // The operands, with commas between them.
-fn put_operands(page: &mut Page, row: &[u8; CELLS]) {
+fn put_operands(page: &mut Lines, row: &[u8; CELLS]) {
     let codes = codes_of(row);
     let mut is_behind = false;
     for code in codes {
@@ -110,7 +113,7 @@ fn star_of(row: &[u8; CELLS]) -> u8 {
 }
 
 // What stands behind the mnemonic; nothing where there is no operand.
-fn put_tail(page: &mut Page, row: &[u8; CELLS]) {
+fn put_tail(page: &mut Lines, row: &[u8; CELLS]) {
     if row[ONE] != NONE {
         page.put(&[star_of(row), b' ']);
         put_operands(page, row);
@@ -118,7 +121,7 @@ fn put_tail(page: &mut Page, row: &[u8; CELLS]) {
 }
 
 // A row, and the end of its line.
-fn put_row(page: &mut Page, row: &[u8; CELLS]) {
+fn put_row(page: &mut Lines, row: &[u8; CELLS]) {
     let _ = write!(page, "{:>2}.{:<2} ", row[SECTION], row[ITEM]);
     page.put(&row[LETTERS..ONE]);
     put_tail(page, row);
@@ -128,7 +131,7 @@ fn put_row(page: &mut Page, row: &[u8; CELLS]) {
 // The whole table.
 pub fn show_rows<P: Print>(rt: &P) {
     let table = rows();
-    let mut page = Page::new();
+    let mut page = Lines::new();
     for row in &table {
         put_row(&mut page, row);
     }
@@ -136,7 +139,7 @@ pub fn show_rows<P: Print>(rt: &P) {
 }
 
 fn show_unknown<P: Print>(rt: &P) {
-    let mut page = Page::new();
+    let mut page = Lines::new();
     page.put(b"unknown\n");
     page.show(rt);
 }
@@ -146,7 +149,7 @@ fn show_at<P: Print>(rt: &P, i: usize)
     requires { i < 106 }
 {
     let table = rows();
-    let mut page = Page::new();
+    let mut page = Lines::new();
     put_row(&mut page, &table[i]);
     page.show(rt);
 }

@@ -36,15 +36,15 @@ bodies-requires c =
     let l : Laid t = laid_of t (laid-long t o) o in
     (entries-of t c.index-n.result l c.index-n.ensures, omega (arith, c.index-n.ensures, laid-few t o))
 
-pub invariant_of-places : goal.invariant_of-places
-invariant_of-places c =
+pub shapes_hold-requires : goal.shapes_hold-requires
+shapes_hold-requires c =
     let t = c.args.table.now in
     let o : layout_ok t ≡ true = sym c.layout_ok.ensures ∙ c.if-not-layout_ok.false in
     let l : Laid t = laid_of t (laid-long t o) o in
-    record { known = known_of t _ _ c.index-n.result l c.index-n.ensures (omega (arith, c.index-n.ensures, laid-few t o, c.fields_ok.auto.classes)) (c.fields_ok.ensures.classes c.if-not-fields_ok.false) c.bodies.ensures }
+    known_of t _ _ c.index-n.result l c.index-n.ensures (omega (arith, c.index-n.ensures, laid-few t o, c.fields_ok.auto.classes)) (c.fields_ok.ensures.classes c.if-not-fields_ok.false) c.bodies.ensures
 
 pub returns : goal.returns
 returns c =
     let t = c.args.table.now in
     let o : layout_ok t ≡ true = sym c.layout_ok.ensures ∙ c.if-not-layout_ok.false in
-    c.shapes_ok.ensures ∙ check-shapes t o c.index-n.result c.index-n.ensures (sym c.fields_ok.ensures.verdict ∙ c.if-not-fields_ok.false)
+    c.shapes_hold.ensures ∙ check-shapes t o c.index-n.result c.index-n.ensures (sym c.fields_ok.ensures.verdict ∙ c.if-not-fields_ok.false)

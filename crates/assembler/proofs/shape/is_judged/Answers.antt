@@ -10,7 +10,7 @@ unfolding is_judged
 returns-then-not-all_given c cs = sym (and_no _ _ (sym c.all_given.ensures ∙ c.if-not-all_given.true))
 
 pub count_known-requires : goal.count_known-requires
-count_known-requires c = omega (arith, c.index-p.ensures, c.requires.2)
+count_known-requires c = omega (arith, c.index-p.ensures, c.requires.1)
 
 pub returns : goal.returns
 unfolding is_judged

@@ -6,7 +6,7 @@ use mathlib.Core.Path.{sym, ◌∙◌}
 use Rattle.assembler.proofs.shape.place_fault.Goals as goal
 
 pub is_judged-requires : goal.is_judged-requires
-is_judged-requires c = (c.requires.0, c.requires.1, c.requires.2)
+is_judged-requires c = (c.requires.0, c.requires.2)
 
 pub fault_at-requires : goal.fault_at-requires
 fault_at-requires c = (omega (arith, c.index-p.ensures, c.requires.2), c.requires.0, c.requires.3)
