@@ -17,14 +17,9 @@ fn copy_words(m: &mut [u32], from: usize, to: usize, n: usize)
     requires { (from + n ≤ length m.old) × (to + n ≤ length m.old) }
     ensures { m.new ≡ copied_words n from to m.old }
 {
-    // The library's copy_within moves words as if it read them all first, so a repeat of what was copied would be lost. The two indexes move, since
-    // `from + i` and `to + i` take a register from the machine's loop, which this is folded into, and its jumps then lie so that decks take longer.
-    let mut f = from;
-    let mut g = to;
-    for _i in 0..n {
-        m[g] = m[f];
-        f += 1;
-        g += 1;
+    // The library's copy_within moves words as if it read them all first, so a repeat of what was copied would be lost.
+    for i in 0..n {
+        m[to + i] = m[from + i];
     }
 }
 

@@ -1,29 +1,20 @@
 -- One turn of a comparison by characters, and its end.
 -- Assumes nothing.
 use Prim.Native.Nat.{ℕ, zero, suc, ◌+◌, ◌-◌, ◌≤◌, ◌<◌}
-use mathlib.Core.Path.{◌≡◌, refl, ◌∙◌}
+use mathlib.Core.Path.{◌≡◌, refl}
 use mathlib.Core.List.{List}
 use native.Mathlib.Omega.{arith}
+use native.Mathlib.Numerals.{add-one, sub-one}
 use borrow.Author.Tests.{lt-ltb, le-ltb, ne_eqb, eq-eqb}
 use Rattle.base.specs.Test.{if}
 use Rattle.rules.specs.Operand.{char_in}
 use Rattle.rules.specs.Exec.{compared}
 
--- equal counts and addresses
-pub same-counts : (m : List ℕ) {n n' f f' g g' : ℕ} → n ≡ n' → f ≡ f' → g ≡ g' → compared n f g m ≡ compared n' f' g' m
-same-counts m p q r = rw (p, q, r)
-
--- one equal character
-pub same-char : (m : List ℕ) (n a e : ℕ) → char_in m a ≡ char_in m e → compared (suc n) a e m ≡ compared n (suc a) (suc e) m
+-- characters that are equal, and that are not
+pub compared-equal : (n f g : ℕ) (m : List ℕ) → 0 < n → char_in m f ≡ char_in m g → compared n f g m ≡ compared (n - 1) (f + 1) (g + 1) m
 unfolding compared if
-same-char m n a e q = rw (eq-eqb (char_in m a) (char_in m e) q)
-
--- character i of n, where it is equal, and where it is not
-pub compared-equal : (n i f g : ℕ) (m : List ℕ) → i < n → char_in m (f + i) ≡ char_in m (g + i) → compared (n - i) (f + i) (g + i) m ≡ compared (n - (i + 1)) (f + (i + 1)) (g + (i + 1)) m
-compared-equal n i f g m h e =
-    same-counts m {n = n - i} {n' = suc (n - (i + 1))} (omega arith) refl refl
-    ∙ same-char m (n - (i + 1)) (f + i) (g + i) e
-    ∙ same-counts m {n = n - (i + 1)} {n' = n - (i + 1)} {f = suc (f + i)} {f' = f + (i + 1)} {g = suc (g + i)} {g' = g + (i + 1)} refl (omega arith) (omega arith)
+compared-equal zero f g m h e = absurd (omega arith)
+compared-equal (suc n) f g m h e = rw (eq-eqb (char_in m f) (char_in m g) e, sub-one, add-one f, add-one g)
 
 pub compared-below : (n f g : ℕ) (m : List ℕ) → 0 < n → char_in m f < char_in m g → compared n f g m ≡ 1
 unfolding compared if

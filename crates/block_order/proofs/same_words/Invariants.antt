@@ -1,6 +1,9 @@
-use Prim.Native.Nat.{◌*◌}
+use Prim.Native.Nat.{◌-◌, ◌*◌, ◌≤◌}
 use Rattle.block_order.specs.Skips.{Skips}
 use Rattle.block_order.proofs.same_words.Given as goal
 
 abbrev pub invariant-loop-i : goal.invariant-loop-i
-invariant-loop-i l = Skips l.i (4 * l.f) (4 * l.g) l.m
+invariant-loop-i l = (l.i ≤ l.n) × Skips l.i (4 * l.f) (4 * l.g) l.m
+
+abbrev pub decreases-loop-i : goal.decreases-loop-i
+decreases-loop-i l = l.n - l.i
