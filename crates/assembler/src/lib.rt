@@ -84,7 +84,7 @@ pub fn line(a: Result<u32, Refusal>) -> u32
 }
 
 // The answer, given what is collected and the draft of the table. The index of the rows is made here, since nothing before asks it: so it lies on the stack
-// where what was collected by lay.
+// where the locals of `collect` lay.
 fn finish_indexed(
     list: &Operations,
     text: &[u8],

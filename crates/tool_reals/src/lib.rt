@@ -3,8 +3,8 @@
 
 ghost use Rattle.std.specs.Prelude.{◌<◌, ◌≤◌};
 
-use console::page::Page;
 use io::decimal;
+use std::io::Write;
 use tool_forms::put_form;
 
 // A pair's high word: the sign's weight, the exponent's weight, the number of exponents, that of what is not finite and that of a real with whole digits.
@@ -163,32 +163,32 @@ fn told(digits: &[u8]) -> &[u8] {
 }
 
 // As many zeros, up to 15.
-fn put_zeros(page: &mut Page, n: usize) {
+fn put_zeros<W: Write>(page: &mut W, n: usize) {
     let zeros = [b'0'; SHOWN];
-    page.put(&zeros[..n.min(SHOWN)]);
+    let _ = page.write_all(&zeros[..n.min(SHOWN)]);
 }
 
 // The first k digits, with zeros where there are fewer; then the rest behind a point, if there is one.
-fn put_pointed(page: &mut Page, digits: &[u8], k: usize) {
+fn put_pointed<W: Write>(page: &mut W, digits: &[u8], k: usize) {
     if digits.len() <= k {
-        page.put(digits);
+        let _ = page.write_all(digits);
         put_zeros(page, k - digits.len());
         return;
     }
-    page.put(&digits[..k]);
-    page.put(b".");
-    page.put(&digits[k..]);
+    let _ = page.write_all(&digits[..k]);
+    let _ = page.write_all(b".");
+    let _ = page.write_all(&digits[k..]);
 }
 
 // Digits, the first of this order: in a plain form where that is short, else with a power of ten.
-fn put_digits(page: &mut Page, digits: &[u8], order: usize) {
+fn put_digits<W: Write>(page: &mut W, digits: &[u8], order: usize) {
     if order < SMALL {
         put_pointed(page, digits, 1);
         put_form(page, b"E-#", b"", b"", &[(UNIT - order) as u64]);
     } else if order < UNIT {
-        page.put(b"0.");
+        let _ = page.write_all(b"0.");
         put_zeros(page, UNIT - order - 1);
-        page.put(digits);
+        let _ = page.write_all(digits);
     } else if order < LARGE {
         put_pointed(page, digits, order - UNIT + 1);
     } else {
@@ -198,38 +198,38 @@ fn put_digits(page: &mut Page, digits: &[u8], order: usize) {
 }
 
 // A real above 0.
-fn put_rounded(page: &mut Page, r: Short) {
+fn put_rounded<W: Write>(page: &mut W, r: Short) {
     let mut text = [0u8; WORD_DIGITS];
     let n = decimal(r.digits, &mut text);
     put_digits(page, told(&text[..n]), r.order);
 }
 
 // A real without its sign, by its low word and its high one.
-fn put_size(page: &mut Page, low: u32, high: u32) {
+fn put_size<W: Write>(page: &mut W, low: u32, high: u32) {
     let field = high / EXPONENT % EXPONENTS;
     let m = low as u64 + (high % EXPONENT) as u64 * SPAN;
     if field == INFINITE {
-        page.put(b"not finite");
+        let _ = page.write_all(b"not finite");
     } else if 0 < field {
         put_rounded(page, round_real(LEADING + m, field));
     } else if m == 0 {
-        page.put(b"0");
+        let _ = page.write_all(b"0");
     } else {
         put_rounded(page, round_real(m, 1));
     }
 }
 
 // A real, by its two words: as `19.99`, or as `1.5E+20` from 10^15 on and below 10^-5.
-pub fn put_real(page: &mut Page, low: u32, high: u32) {
+pub fn put_real<W: Write>(page: &mut W, low: u32, high: u32) {
     if SIGN <= high {
-        page.put(b"-");
+        let _ = page.write_all(b"-");
     }
     put_size(page, low, high);
 }
 
 // RA and its flag, as a line.
-pub fn put_ra(page: &mut Page, low: u32, high: u32, flag: u32) {
-    page.put(b"RA ");
+pub fn put_ra<W: Write>(page: &mut W, low: u32, high: u32, flag: u32) {
+    let _ = page.write_all(b"RA ");
     put_real(page, low, high);
     put_form(page, b", overflow #\n", b"", b"", &[flag as u64]);
 }
