@@ -219,7 +219,7 @@ fn put_size<W: Write>(page: &mut W, low: u32, high: u32) {
     }
 }
 
-// A real, by its two words: as `19.99`, or as `1.5E+20` from 10^15 on and below 10^-5.
+// A real, by its two words, behind what was written: as `19.99`, or as `1.5E+20` from 10^15 on and below 10^-5. As much of it as the writer takes.
 pub fn put_real<W: Write>(page: &mut W, low: u32, high: u32) {
     if SIGN <= high {
         let _ = page.write_all(b"-");
