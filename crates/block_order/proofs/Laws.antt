@@ -10,6 +10,15 @@ use Rattle.base.specs.Test.{if}
 use Rattle.rules.specs.Operand.{char_in}
 use Rattle.rules.specs.Exec.{compared}
 
+-- equal counts and addresses
+pub same-counts : (m : List ℕ) {n n' f f' g g' : ℕ} → n ≡ n' → f ≡ f' → g ≡ g' → compared n f g m ≡ compared n' f' g' m
+same-counts m p q r = rw (p, q, r)
+
+-- one equal character
+pub same-char : (m : List ℕ) (n a e : ℕ) → char_in m a ≡ char_in m e → compared (suc n) a e m ≡ compared n (suc a) (suc e) m
+unfolding compared if
+same-char m n a e q = rw (eq-eqb (char_in m a) (char_in m e) q)
+
 -- characters that are equal, and that are not
 pub compared-equal : (n f g : ℕ) (m : List ℕ) → 0 < n → char_in m f ≡ char_in m g → compared n f g m ≡ compared (n - 1) (f + 1) (g + 1) m
 unfolding compared if

@@ -6,7 +6,7 @@ use mathlib.Core.Bool.{Bool, true, false}
 use mathlib.Core.List.{List}
 use native.Mathlib.Omega.{arith}
 use lib.Dec.{eqb, ltb}
-use borrow.Author.Tests.{eq-eqb, ne_eqb}
+use borrow.Author.Tests.{ne_eqb}
 use Rattle.base.specs.Test.{if}
 use Rattle.base.specs.Lists.{◌at◌}
 use Rattle.words.specs.Words.{byte_of}
@@ -16,27 +16,20 @@ use Rattle.block_chars.specs.Chars.{merged_word}
 use Rattle.block_chars.proofs.Laws.{char_of}
 use Rattle.block_chars.proofs.Merge.{merged-one-chars, merged-two-chars, merged-three-chars}
 use Rattle.block_order.specs.Skips.{Skips}
+use Rattle.block_order.proofs.Laws.{same-counts, same-char}
 
--- equal counts and addresses
-same-counts : (m : List ℕ) {n n' f f' g g' : ℕ} → n ≡ n' → f ≡ f' → g ≡ g' → compared n f g m ≡ compared n' f' g' m
-same-counts m p q r = rw (p, q, r)
-
--- one equal character, and four
+-- four equal characters
 module _ (m : List ℕ) where
-  same-char : (n a e : ℕ) → char_in m a ≡ char_in m e → compared (suc n) a e m ≡ compared n (suc a) (suc e) m
-  unfolding compared if
-  same-char n a e q = rw (eq-eqb (char_in m a) (char_in m e) q)
-
   -- the next four characters are equal
   abbrev Four : ℕ → ℕ → Type 0
   Four a e = (j : ℕ) → compared (suc (suc (suc (suc j)))) a e m ≡ compared j (suc (suc (suc (suc a)))) (suc (suc (suc (suc e)))) m
 
   same-four : (a e : ℕ) → char_in m a ≡ char_in m e → char_in m (suc a) ≡ char_in m (suc e) → char_in m (suc (suc a)) ≡ char_in m (suc (suc e)) → char_in m (suc (suc (suc a))) ≡ char_in m (suc (suc (suc e))) → Four a e
   same-four a e p q r s j =
-      same-char (suc (suc (suc j))) a e p
-      ∙ same-char (suc (suc j)) (suc a) (suc e) q
-      ∙ same-char (suc j) (suc (suc a)) (suc (suc e)) r
-      ∙ same-char j (suc (suc (suc a))) (suc (suc (suc e))) s
+      same-char m (suc (suc (suc j))) a e p
+      ∙ same-char m (suc (suc j)) (suc a) (suc e) q
+      ∙ same-char m (suc j) (suc (suc a)) (suc (suc e)) r
+      ∙ same-char m j (suc (suc (suc a))) (suc (suc (suc e))) s
 
   -- character i of word f is character k of word g
   alike : (f i g k a e : ℕ) → a ≡ 4 * f + i → e ≡ 4 * g + k → i < 4 → k < 4 → byte_of (m at f) i ≡ byte_of (m at g) k → char_in m a ≡ char_in m e
