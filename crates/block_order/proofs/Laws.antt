@@ -21,9 +21,8 @@ same-char m n a e q = rw (eq-eqb (char_in m a) (char_in m e) q)
 
 -- characters that are equal, and that are not
 pub compared-equal : (n f g : ℕ) (m : List ℕ) → 0 < n → char_in m f ≡ char_in m g → compared n f g m ≡ compared (n - 1) (f + 1) (g + 1) m
-unfolding compared if
 compared-equal zero f g m h e = absurd (omega arith)
-compared-equal (suc n) f g m h e = rw (eq-eqb (char_in m f) (char_in m g) e, sub-one, add-one f, add-one g)
+compared-equal (suc n) f g m h e = rw (same-char m n f g e, sub-one, add-one f, add-one g)
 
 pub compared-below : (n f g : ℕ) (m : List ℕ) → 0 < n → char_in m f < char_in m g → compared n f g m ≡ 1
 unfolding compared if
